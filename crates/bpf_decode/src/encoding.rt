@@ -62,17 +62,13 @@ fn row(opcode: u8, dst: Reg, src: Reg, offset: i16, imm: i32) -> Fields
 
 /// The fields of the first slot: the instruction table (RFC 9669, sections 3 to 5).
 #[inline(always)]
+#[rattlefmt::skip]
 pub fn first_fields(line: &Line) -> Fields
     ensures { result ≡ first_slot line.now }
 {
     let r0 = Reg::zero();
     match *line {
-        Line::Arithmetic {
-            width,
-            operation,
-            dst,
-            operand,
-        } => {
+        Line::Arithmetic { width, operation, dst, operand } => {
             let (code, offset) = code_of_operation(operation);
             let opcode = code * 16 + class_of_arithmetic(width);
             match operand {
@@ -81,11 +77,7 @@ pub fn first_fields(line: &Line) -> Fields
             }
         }
         Line::Negate { width, dst } => row(NEG * 16 + class_of_arithmetic(width), dst, r0, 0, 0),
-        Line::MoveExtended {
-            extension,
-            dst,
-            src,
-        } => {
+        Line::MoveExtended { extension, dst, src } => {
             let opcode = MOV * 16 + X + class_of_arithmetic(extension.width());
             row(opcode, dst, src, i16::from(extension.bits()), 0)
         }
@@ -95,13 +87,7 @@ pub fn first_fields(line: &Line) -> Fields
         }
         Line::Jump { distance } => row(JA, r0, r0, distance, 0),
         Line::LongJump { distance } => row(JA32, r0, r0, 0, distance),
-        Line::JumpIf {
-            width,
-            comparison,
-            dst,
-            operand,
-            distance,
-        } => {
+        Line::JumpIf { width, comparison, dst, operand, distance } => {
             let opcode = code_of_comparison(comparison) * 16 + class_of_jumps(width);
             match operand {
                 Operand::Immediate(imm) => row(opcode, dst, r0, distance, imm),
@@ -112,54 +98,18 @@ pub fn first_fields(line: &Line) -> Fields
         Line::CallLocal { distance } => row(CALL, r0, Reg::one(), 0, distance),
         Line::Exit => row(EXIT, r0, r0, 0, 0),
         Line::LoadWide { dst, value } => row(LDDW, dst, r0, 0, low_half(value).cast_signed()),
-        Line::Load {
-            size,
-            dst,
-            base,
-            offset,
-        } => row(
-            MEM * 32 + LDX + 8 * code_of_size(size),
-            dst,
-            base,
-            offset,
-            0,
-        ),
-        Line::LoadExtended {
-            size,
-            dst,
-            base,
-            offset,
-        } => row(
-            MEMSX * 32 + LDX + 8 * code_of_signed_size(size),
-            dst,
-            base,
-            offset,
-            0,
-        ),
-        Line::StoreImmediate {
-            size,
-            base,
-            offset,
-            value,
-        } => row(
-            MEM * 32 + ST + 8 * code_of_size(size),
-            base,
-            r0,
-            offset,
-            value,
-        ),
-        Line::Store {
-            size,
-            base,
-            offset,
-            src,
-        } => row(
-            MEM * 32 + STX + 8 * code_of_size(size),
-            base,
-            src,
-            offset,
-            0,
-        ),
+        Line::Load { size, dst, base, offset } => {
+            row(MEM * 32 + LDX + 8 * code_of_size(size), dst, base, offset, 0)
+        }
+        Line::LoadExtended { size, dst, base, offset } => {
+            row(MEMSX * 32 + LDX + 8 * code_of_signed_size(size), dst, base, offset, 0)
+        }
+        Line::StoreImmediate { size, base, offset, value } => {
+            row(MEM * 32 + ST + 8 * code_of_size(size), base, r0, offset, value)
+        }
+        Line::Store { size, base, offset, src } => {
+            row(MEM * 32 + STX + 8 * code_of_size(size), base, src, offset, 0)
+        }
     }
 }
 

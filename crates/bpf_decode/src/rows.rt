@@ -23,16 +23,11 @@ fn operand_of(fields: &Fields) -> Option<Operand>
 
 /// The rows of the classes ALU and ALU64.
 #[inline(always)]
+#[rattlefmt::skip]
 fn arithmetic_of(width: Width, fields: &Fields) -> Option<Line>
     ensures { result ≡ arithmetic_at width fields.now }
 {
-    let Fields {
-        opcode,
-        dst,
-        src,
-        offset,
-        imm,
-    } = *fields;
+    let Fields { opcode, dst, src, offset, imm } = *fields;
     let is_immediate = opcode % 16 < X;
     let r0 = Reg::zero();
     match opcode / 16 {
@@ -60,16 +55,11 @@ fn arithmetic_of(width: Width, fields: &Fields) -> Option<Line>
 
 /// The rows of the classes JMP and JMP32.
 #[inline(always)]
+#[rattlefmt::skip]
 fn jump_of(width: Width, fields: &Fields) -> Option<Line>
     ensures { result ≡ jump_at width fields.now }
 {
-    let Fields {
-        opcode,
-        dst,
-        src,
-        offset,
-        imm,
-    } = *fields;
+    let Fields { opcode, dst, src, offset, imm } = *fields;
     let r0 = Reg::zero();
     match opcode {
         JA if dst == r0 && src == r0 && imm == 0 => Some(Line::Jump { distance: offset }),
