@@ -85,7 +85,7 @@ impl<const ROOM: usize> Text<ROOM> {
     }
 
     /// Appends the operands of an instruction, after a space.
-    #[tactic(auto, using(crate::proofs::Rooms::room_least, crate::proofs::Rooms::short_distance, crate::proofs::Rooms::long_distance))]
+    #[tactic(auto, using(crate::proofs::Rooms::room_least, crate::proofs::Rooms::few_digits, crate::proofs::Rooms::short_distance, crate::proofs::Rooms::long_distance))]
     fn push_operands(&mut self, line: &Line)
         requires { length self.old + operands_room line.now ≤ ROOM }
         ensures items { self.new ≡ self.old ++ operands_text line.now }
@@ -108,11 +108,11 @@ impl<const ROOM: usize> Text<ROOM> {
                 self.push_first_register(dst);
                 self.push_register(src);
                 self.push_all(b", ");
-                self.push_integer(extension.bits());
+                self.push_number(u32::from(extension.bits()));
             }
             Line::ByteOrder { width, dst, .. } => {
                 self.push_first_register(dst);
-                self.push_integer(width.bits());
+                self.push_number(u32::from(width.bits()));
             }
             Line::LoadWide { dst, value } => {
                 self.push_first_register(dst);

@@ -29,12 +29,14 @@ returns-in-MoveExtended-clause-items g c =
     let dst = codes " " ++ register move.dst ++ codes ", " in
     let src = twice old dst (register move.src) c.push_first_register-in-MoveExtended.ensures.items c.push_register-in-MoveExtended.ensures.items in
     let comma = twice old (dst ++ register move.src) (codes ", ") src c.push_all-in-MoveExtended.ensures.items in
-    let bits = c.push_integer.ensures.items ∙ ap (λ n. c.push_all-in-MoveExtended.new.self ++ decimal n) c.bits.ensures in
+    let bits : c.push_number.new.self ≡ c.push_all-in-MoveExtended.new.self ++ decimal (extension_bits move.extension) = search rules in
     of_line old move.is (twice old (dst ++ register move.src ++ codes ", ") (decimal (extension_bits move.extension)) comma bits)
 
 pub returns-in-ByteOrder-clause-items : goal.returns-in-ByteOrder-clause-items
 returns-in-ByteOrder-clause-items g c =
-    of_line c.args.self.now c.in-ByteOrder.is (twice c.args.self.now (codes " " ++ register c.in-ByteOrder.dst ++ codes ", ") (decimal (swap_width_bits c.in-ByteOrder.width)) c.push_first_register-in-ByteOrder.ensures.items (c.push_integer-in-ByteOrder.ensures.items ∙ ap (λ n. c.push_first_register-in-ByteOrder.new.self ++ decimal n) c.bits-in-ByteOrder.ensures))
+    let order = c.in-ByteOrder in
+    let bits : c.push_number-in-ByteOrder.new.self ≡ c.push_first_register-in-ByteOrder.new.self ++ decimal (swap_width_bits order.width) = search rules in
+    of_line c.args.self.now order.is (twice c.args.self.now (codes " " ++ register order.dst ++ codes ", ") (decimal (swap_width_bits order.width)) c.push_first_register-in-ByteOrder.ensures.items bits)
 
 pub returns-in-LoadWide-clause-items : goal.returns-in-LoadWide-clause-items
 returns-in-LoadWide-clause-items g c =
