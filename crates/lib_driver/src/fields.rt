@@ -20,7 +20,8 @@ pub(crate) fn answer(alloc: Global, words: &[&str]) -> Answer {
         "pus_fields.read_tm" packet: octets => read_telemetry(alloc, &packet);
         "pus_fields.write_tm" before apid: apid_of count: count_of
                 service: number subtype: number destination: number time: number data: octets => {
-            let tm = Tm::new(apid, count, service, subtype, destination, time, &data);
+            let payload = data.as_slice();
+            let tm = Tm { apid, count, service, subtype, destination, time, payload };
             append!(alloc, before, Octets, out => write_tm(&tm, out))
         };
     }
@@ -66,8 +67,8 @@ fn read_telemetry(alloc: Global, packet: &[u8]) -> Answer {
 }
 
 fn show_telemetry(alloc: Global, tm: &Tm) -> Answer {
-    let (apid, count) = (tm.apid().number(), tm.count().number());
-    let (service, subtype, destination) = (tm.service(), tm.subtype(), tm.destination());
-    let (time, data) = (tm.time(), Octets(tm.payload()));
+    let (apid, count) = (tm.apid.number(), tm.count.number());
+    let (service, subtype, destination) = (tm.service, tm.subtype, tm.destination);
+    let (time, data) = (tm.time, Octets(tm.payload));
     text!(alloc; "Ok", apid, count, service, subtype, destination, time, data)
 }

@@ -21,14 +21,14 @@ fn push_report<A: Allocator + Copy>(
     let Ok(tm) = read_tm(packet) else {
         return Ok(());
     };
-    let count = tm.count().number();
+    let count = tm.count.number();
     let mut front = Text::new();
     push_parts!(
-        front; b"tm " => tm.service(), b" " => tm.subtype(), b" seq " => count,
-        b" dest " => tm.destination(); b" data "
+        front; b"tm " => tm.service, b" " => tm.subtype, b" seq " => count,
+        b" dest " => tm.destination; b" data "
     );
     output.extend_from_slice(front.as_slice())?;
-    let payload = hex::encode(*output.allocator(), tm.payload())?;
+    let payload = hex::encode(*output.allocator(), tm.payload)?;
     output.extend_from_slice(payload.as_bytes())?;
     output.push(b'\n')?;
     Ok(())

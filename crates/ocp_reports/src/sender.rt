@@ -45,15 +45,15 @@ impl Sender {
         ensures short { length (report_data report.now) ≤ 49 }
     {
         let data = report_fields(report);
-        let telemetry = Tm::new(
-            self.apid,
-            count_after(self.count, out.len()),
-            report.service(),
-            report.subtype(),
-            origin.destination,
-            origin.time,
-            data.as_slice(),
-        );
+        let telemetry = Tm {
+            apid: self.apid,
+            count: count_after(self.count, out.len()),
+            service: report.service(),
+            subtype: report.subtype(),
+            destination: origin.destination,
+            time: origin.time,
+            payload: data.as_slice(),
+        };
         out.push(&telemetry);
     }
 

@@ -85,13 +85,13 @@ pub fn read_tm(octets: &[u8]) -> Result<Tm, TmFault>
     if message_type_counter != 0 {
         return Err(TmFault::NotProfile);
     }
-    Ok(Tm::new(
-        header.apid,
-        header.count,
-        field[1],
-        field[2],
-        BigEndian::read_u16(&field[5..]),
-        BigEndian::read_u32(&field[7..]),
-        &field[11..field.len() - 2],
-    ))
+    Ok(Tm {
+        apid: header.apid,
+        count: header.count,
+        service: field[1],
+        subtype: field[2],
+        destination: BigEndian::read_u16(&field[5..]),
+        time: BigEndian::read_u32(&field[7..]),
+        payload: &field[11..field.len() - 2],
+    })
 }

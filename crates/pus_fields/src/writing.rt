@@ -87,7 +87,8 @@ pub fn write_tm<A: Allocator>(tm: &Tm, out: &mut Vec<u8, A>) -> Result<(), Write
     ensures same_capacity { OnErr result (vec_capacity out.new ≡ vec_capacity out.old) }
     ensures capacity { vec_capacity out.old ≤ vec_capacity out.new }
 {
-    let payload = tm.payload();
+    let (service, subtype) = (tm.service, tm.subtype);
+    let (destination, time, payload) = (tm.destination, tm.time, tm.payload);
     if payload.len() > MAX_TELEMETRY_DATA {
         return Err(WriteFault::TooLong);
     }
@@ -95,17 +96,16 @@ pub fn write_tm<A: Allocator>(tm: &Tm, out: &mut Vec<u8, A>) -> Result<(), Write
         .map_err(|_| WriteFault::Memory)?;
     written_octets_are_the_packet();
     let start = out.len();
-    out.extend_from_slice(&((1 << 11) + tm.apid().number()).to_be_bytes())
+    out.extend_from_slice(&((1 << 11) + tm.apid.number()).to_be_bytes())
         .unwrap();
-    out.extend_from_slice(&((3 << 14) + tm.count().number()).to_be_bytes())
+    out.extend_from_slice(&((3 << 14) + tm.count.number()).to_be_bytes())
         .unwrap();
     out.extend_from_slice(&((payload.len() + 12) as u16).to_be_bytes())
         .unwrap();
-    out.extend_from_slice(&[VERSION_OCTET, tm.service(), tm.subtype(), 0, 0])
+    out.extend_from_slice(&[VERSION_OCTET, service, subtype, 0, 0])
         .unwrap();
-    out.extend_from_slice(&tm.destination().to_be_bytes())
-        .unwrap();
-    out.extend_from_slice(&tm.time().to_be_bytes()).unwrap();
+    out.extend_from_slice(&destination.to_be_bytes()).unwrap();
+    out.extend_from_slice(&time.to_be_bytes()).unwrap();
     out.extend_from_slice(payload).unwrap();
     append_error_control(out, start);
     Ok(())

@@ -30,7 +30,7 @@ returns-then-message_type_counter-ne0-clause-value c =
 
 pub returns-clause-value : goal.returns-clause-value
 returns-clause-value c =
-    let said = c.new.ensures ∙ same_telemetry _ (telemetry_in c.in-Ok.found.0.apid c.in-Ok.found.0.count c.in-Ok.found.1.now) refl refl refl refl (c.read_u16.ensures ∙ ap (big_number 2) (take_rest c.in-Ok.found.1.now 5)) (c.read_u32.ensures ∙ ap (big_number 4) (take_rest c.in-Ok.found.1.now 7)) refl in
+    let said = same_telemetry (record { apid = c.in-Ok.found.0.apid; count = c.in-Ok.found.0.count; service = _; subtype = _; destination = c.read_u16.result; time = c.read_u32.result; payload = _ }) (telemetry_in c.in-Ok.found.0.apid c.in-Ok.found.0.count c.in-Ok.found.1.now) refl refl refl refl (c.read_u16.ensures ∙ ap (big_number 2) (take_rest c.in-Ok.found.1.now 5)) (c.read_u32.ensures ∙ ap (big_number 4) (take_rest c.in-Ok.found.1.now 7)) refl in
     let counter = sym (c.read_u16-message_type_counter.ensures ∙ ap (big_number 2) (take_rest c.in-Ok.found.1.now 3)) ∙ c.if-message_type_counter-ne0.false in
     ap Ok said ∙ tm_accepted c.args.octets.now _ _ c.in-Ok.ensures.value c.if-header.false c.in_default.ensures.value (both_pass c.in-Ok.found.1.now c.if-time_reference_status-ne0.false counter)
 
@@ -42,5 +42,5 @@ returns-clause-only c tm h =
 pub returns-clause-ok : goal.returns-clause-ok
 returns-clause-ok c =
     let counter = sym (c.read_u16-message_type_counter.ensures ∙ ap (big_number 2) (take_rest c.in-Ok.found.1.now 3)) ∙ c.if-message_type_counter-ne0.false in
-    let said = c.new.ensures ∙ same_telemetry _ (telemetry_in c.in-Ok.found.0.apid c.in-Ok.found.0.count c.in-Ok.found.1.now) refl refl refl refl (c.read_u16.ensures ∙ ap (big_number 2) (take_rest c.in-Ok.found.1.now 5)) (c.read_u32.ensures ∙ ap (big_number 4) (take_rest c.in-Ok.found.1.now 7)) refl in
+    let said = same_telemetry (record { apid = c.in-Ok.found.0.apid; count = c.in-Ok.found.0.count; service = _; subtype = _; destination = c.read_u16.result; time = c.read_u32.result; payload = _ }) (telemetry_in c.in-Ok.found.0.apid c.in-Ok.found.0.count c.in-Ok.found.1.now) refl refl refl refl (c.read_u16.ensures ∙ ap (big_number 2) (take_rest c.in-Ok.found.1.now 5)) (c.read_u32.ensures ∙ ap (big_number 4) (take_rest c.in-Ok.found.1.now 7)) refl in
     rw said (sound_tm_is c.args.octets.now _ _ c.in-Ok.ensures.ok c.in_default.ensures.reason c.if-header.false c.if-time_reference_status-ne0.false counter (λ i. omega (arith, c.type_inv.octets i)))
