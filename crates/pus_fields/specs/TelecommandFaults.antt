@@ -1,6 +1,6 @@
 -- What can be wrong with octets that should be a telecommand, in order: the first fault is the
 -- answer.
-use Rattle.std.specs.Prelude.{◌≡◌, ◌≢◌, ℕ, ◌-◌, ◌%◌, ◌^◌, ◌==◌, not, true, false, List, length, take, drop, slice_index, slice_range, if◌then◌else◌, Result, Ok, Err, Option, Some, None}
+use Rattle.std.specs.Prelude.{◌≡◌, ◌≢◌, ℕ, ◌-◌, ◌%◌, ◌^◌, ◌==◌, not, true, false, List, length, take, drop, slice_index, slice_range, if◌then◌else◌, Result, Ok, Err, Option, Some, None, codes}
 use Rattle.byteorder.specs.Endian.{big_number}
 use Rattle.space_packet.specs.declared.primary.Primary.{Primary}
 use Rattle.space_packet.specs.declared.fault.PacketFault.{PacketFault}
@@ -27,6 +27,14 @@ HasTcFault apid octets (Discarded OtherApid) =
 HasTcFault apid octets (Rejected why id) = (id ≡ take 4 octets)
     × IsPacketWith octets (λ header field.
     (header.telecommand ≡ true) × (header.apid ≡ apid) × IsRejected why 7 octets header field)
+
+-- the name of a discard in what the program prints
+abbrev pub discard_name : Discard → List ℕ
+discard_name Short = codes "Short"
+discard_name Version = codes "Version"
+discard_name Length = codes "Length"
+discard_name NotTelecommand = codes "NotTelecommand"
+discard_name OtherApid = codes "OtherApid"
 
 -- ---- the same as a function
 

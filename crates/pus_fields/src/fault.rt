@@ -2,83 +2,101 @@
 
 ghost use Rattle.std.specs.Prelude.{◌≡◌};
 ghost use Rattle.pus_fields.specs.declared.fault.TcFault.TheVariants.{Discarded};
-ghost use Rattle.pus_fields.specs.TelecommandFaults.{discard_of};
+ghost use Rattle.pus_fields.specs.TelecommandFaults.{discard_name, discard_of};
 ghost use Rattle.pus_fields.specs.TelemetryFaults.{fault_of, fault_of_packet};
 
 use space_packet::PacketFault;
+use thiserror::Error;
 
 /// Why octets are discarded, without a report, in the order in which faults are looked for.
-#[derive(Clone, Copy, Debug, PartialEq, Eq)]
+#[derive(Clone, Copy, Debug, PartialEq, Eq, Error)]
 pub enum Discard {
-    /// There are fewer than 7 octets.
+    #[error("fewer than 7 octets")]
     Short,
-    /// The packet version number is not 0.
+    #[error("the packet version number is not 0")]
     Version,
-    /// The length of the data field is not the one in the header.
+    #[error("the length of the data field is not the one in the header")]
     Length,
-    /// The packet is telemetry.
+    #[error("the packet is telemetry")]
     NotTelecommand,
-    /// The packet is for another application process.
+    #[error("the packet is for another application process")]
     OtherApid,
+}
+
+impl Discard {
+    /// Its name in what the program prints.
+    pub fn name(self) -> &'static str
+        ensures { result.now ≡ discard_name self }
+    {
+        match self {
+            Discard::Short => "Short",
+            Discard::Version => "Version",
+            Discard::Length => "Length",
+            Discard::NotTelecommand => "NotTelecommand",
+            Discard::OtherApid => "OtherApid",
+        }
+    }
 }
 
 /// Why a telecommand is not accepted, in the order in which faults are looked for. Its sender gets
 /// a report.
-#[derive(Clone, Copy, Debug, PartialEq, Eq)]
+#[derive(Clone, Copy, Debug, PartialEq, Eq, Error)]
 pub enum Rejection {
-    /// The sequence flags are not 11, unsegmented.
+    #[error("the sequence flags are not 11, unsegmented")]
     Segmented,
-    /// There is no secondary header.
+    #[error("there is no secondary header")]
     NoSecondary,
-    /// The data field has under 7 octets.
+    #[error("the data field has under 7 octets")]
     NoRoom,
-    /// The last two octets are not the error control of the others.
+    #[error("the last two octets are not the error control of the others")]
     Pec,
-    /// The version number of the secondary header is not 2.
+    #[error("the version number of the secondary header is not 2")]
     PusVersion,
 }
 
 /// The first thing that is wrong with octets that should be a telecommand: each discard comes
 /// before each rejection.
-#[derive(Clone, Copy, Debug, PartialEq, Eq)]
+#[derive(Clone, Copy, Debug, PartialEq, Eq, Error)]
 pub enum TcFault {
     /// The sender gets no report.
+    #[error("discarded: {0}")]
     Discarded(Discard),
     /// The sender gets a report with the request identifier: the first four octets of the packet.
+    #[error("rejected: {0}")]
     Rejected(Rejection, [u8; 4]),
 }
 
 /// The first thing that is wrong with octets that should be telemetry, in this order.
-#[derive(Clone, Copy, Debug, PartialEq, Eq)]
+#[derive(Clone, Copy, Debug, PartialEq, Eq, Error)]
 pub enum TmFault {
-    /// There are fewer than 7 octets.
+    #[error("there are fewer than 7 octets")]
     Short,
-    /// The packet version number is not 0.
+    #[error("the packet version number is not 0")]
     Version,
-    /// The length of the data field is not the one in the header.
+    #[error("the length of the data field is not the one in the header")]
     Length,
-    /// The packet is a telecommand.
+    #[error("the packet is a telecommand")]
     NotTelemetry,
-    /// The sequence flags are not 11, unsegmented.
+    #[error("the sequence flags are not 11, unsegmented")]
     Segmented,
-    /// There is no secondary header.
+    #[error("there is no secondary header")]
     NoSecondary,
-    /// The data field has under 13 octets.
+    #[error("the data field has under 13 octets")]
     NoRoom,
-    /// The last two octets are not the error control of the others.
+    #[error("the last two octets are not the error control of the others")]
     Pec,
-    /// The version number of the secondary header is not 2.
+    #[error("the version number of the secondary header is not 2")]
     PusVersion,
-    /// The time reference status or the message type counter is not 0.
+    #[error("the time reference status or the message type counter is not 0")]
     NotProfile,
 }
 
 /// Why a packet was not written, in this order.
-#[derive(Clone, Copy, Debug, PartialEq, Eq)]
+#[derive(Clone, Copy, Debug, PartialEq, Eq, Error)]
 pub enum WriteFault {
-    /// The payload does not fit into a packet.
+    #[error("the payload does not fit into a packet")]
     TooLong,
-    /// Memory ran out.
+    #[error("out of memory")]
     Memory,
 }
 
