@@ -4,24 +4,27 @@ ghost use Rattle.std.specs.Prelude.{◌≡◌};
 ghost use Rattle.obcp_types.specs.Codes.{acceptance_code, completion_code, start_code};
 
 use pus_fields::Rejection;
+use thiserror::Error;
 
 /// What is first wrong with the service data of a telecommand, in this order.
-#[derive(Clone, Copy, PartialEq, Eq, Debug)]
+#[derive(Clone, Copy, PartialEq, Eq, Debug, Error)]
 pub enum RequestFault {
-    /// The service is not 18.
+    #[error("the service is not 18")]
     Service,
-    /// The subtype is none of the requests'.
+    #[error("the subtype is none of the requests'")]
     Subtype,
-    /// The data have another length than the request's fields, or a number is out of its range.
+    #[error("the data have another length than the fields, or a number is out of its range")]
     Layout,
 }
 
 /// Why a telecommand was not accepted (ECSS-E-ST-70-41C, 6.1.4). The codes are this product's own.
-#[derive(Clone, Copy, PartialEq, Eq, Debug)]
+#[derive(Clone, Copy, PartialEq, Eq, Debug, Error)]
 pub enum AcceptanceFailure {
     /// Codes 1 to 5: the packet is rejected.
+    #[error("the packet is rejected: {0}")]
     Packet(Rejection),
     /// Codes 6 to 8: the service data are no request.
+    #[error("the service data are no request: {0}")]
     Request(RequestFault),
 }
 
@@ -44,29 +47,29 @@ impl AcceptanceFailure {
 }
 
 /// Why a request was not started (ECSS-E-ST-70-41C, 6.1.5). The codes are this product's own.
-#[derive(Clone, Copy, PartialEq, Eq, Debug)]
+#[derive(Clone, Copy, PartialEq, Eq, Debug, Error)]
 pub enum StartFailure {
-    /// Code 16: a procedure of this identifier is loaded.
+    #[error("a procedure of this identifier is loaded")]
     AlreadyLoaded,
-    /// Code 17: no further procedure can be loaded.
+    #[error("no further procedure can be loaded")]
     TableFull,
-    /// Code 18: the code is not admitted. Its data are the load fault and the slot.
+    #[error("the code is not admitted: load fault {fault} at slot {slot}")]
     BadCode { fault: u8, slot: u16 },
-    /// Code 19: no procedure of this identifier is loaded.
+    #[error("no procedure of this identifier is loaded")]
     NotLoaded,
-    /// Code 20: the procedure is not inactive.
+    #[error("the procedure is not inactive")]
     NotInactive,
-    /// Code 21: the procedure is not active.
+    #[error("the procedure is not active")]
     NotActive,
-    /// Code 22: the procedure is not running.
+    #[error("the procedure is not running")]
     NotRunning,
-    /// Code 23: the procedure is not held.
+    #[error("the procedure is not held")]
     NotHeld,
-    /// Code 24: a stop is pending.
+    #[error("a stop is pending")]
     StopPending,
-    /// Code 25: the mailbox has no room for the words.
+    #[error("the mailbox has no room for the words")]
     MailboxFull,
-    /// Code 27: no room is left for pending and unreported completions.
+    #[error("no room is left for pending and unreported completions")]
     OutboxFull,
 }
 
@@ -93,9 +96,9 @@ impl StartFailure {
 
 /// Why an execution was not completed (ECSS-E-ST-70-41C, 6.1.5.3). The codes are this product's
 /// own.
-#[derive(Clone, Copy, PartialEq, Eq, Debug)]
+#[derive(Clone, Copy, PartialEq, Eq, Debug, Error)]
 pub enum CompletionFailure {
-    /// Code 26: something else came in between.
+    #[error("something else came in between")]
     Overtaken = 26,
 }
 
