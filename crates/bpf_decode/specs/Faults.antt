@@ -29,6 +29,14 @@ IsFirst fault.WritesFramePointer octets =
     ¬ Has fault.CutWide octets × ¬ Has fault.UnknownOpcode octets × ¬ Has fault.BadRegister octets
     × ¬ Has fault.ReservedField octets × Has fault.WritesFramePointer octets
 
+-- 1 to 5 in the order in which faults are looked for
+abbrev pub decode_number : DecodeFault → ℕ
+decode_number fault.CutWide = 1
+decode_number fault.UnknownOpcode = 2
+decode_number fault.BadRegister = 3
+decode_number fault.ReservedField = 4
+decode_number fault.WritesFramePointer = 5
+
 -- the numbers are octets
 abbrev pub AreOctets : List ℕ → Type 0
 AreOctets octets = All (λ octet. octet < 256) octets
