@@ -1,19 +1,16 @@
 -- The number and the slot that a load fault is reported with.
-use Rattle.std.specs.Prelude.{ℕ}
-use Rattle.bpf_decode.specs.declared.fault.DecodeFault.TheVariants.{CutWide, UnknownOpcode, BadRegister, ReservedField, WritesFramePointer}
+use Rattle.std.specs.Prelude.{ℕ, ◌+◌}
+use Rattle.bpf_decode.specs.Faults.{decode_number}
 use Rattle.ocp_loader.specs.declared.fault.LoadFault.{LoadFault}
 use Rattle.ocp_loader.specs.declared.fault.LoadFault.TheVariants.{EmptyCode, RaggedCode, TooLong, Decode, BadCall, BadTarget, FallsOffEnd, Memory}
 
--- 1 to 11 in the order in which faults are looked for; out of memory is 0
+-- 1 to 11 in the order in which faults are looked for, of which 4 to 8 are an instruction's; out of
+-- memory is 0
 abbrev pub number_of : LoadFault → ℕ
 number_of EmptyCode = 1
 number_of RaggedCode = 2
 number_of TooLong = 3
-number_of (Decode CutWide slot) = 4
-number_of (Decode UnknownOpcode slot) = 5
-number_of (Decode BadRegister slot) = 6
-number_of (Decode ReservedField slot) = 7
-number_of (Decode WritesFramePointer slot) = 8
+number_of (Decode fault slot) = 3 + decode_number fault
 number_of (BadCall slot) = 9
 number_of (BadTarget slot) = 10
 number_of (FallsOffEnd slot) = 11

@@ -1,28 +1,36 @@
 //! Why an image is not loaded.
 use bpf_decode::DecodeFault;
 use std::alloc::AllocError;
+use thiserror::Error;
 
 /// Why an image is not loaded, in the order in which faults are looked for: the three of the
 /// length, then slot by slot those of the instructions and their calls, then the targets in slot
 /// order, then the end. Memory may be answered in place of any other answer. A slot is the first
 /// one of the instruction at fault.
-#[derive(Clone, Copy, PartialEq, Eq, Debug)]
+#[derive(Clone, Copy, PartialEq, Eq, Debug, Error)]
 pub enum LoadFault {
     /// There are no octets.
+    #[error("a procedure has at least one instruction")]
     EmptyCode,
     /// The length is no multiple of 8 octets.
+    #[error("an image is whole slots of 8 octets")]
     RaggedCode,
     /// There are over `MAX_SLOTS` slots: 2,048.
+    #[error("an image has at most 2048 slots, and lddw takes two")]
     TooLong,
     /// The octets at the slot are no instruction that may be loaded.
+    #[error("{0}")]
     Decode(DecodeFault, u16),
     /// A numbered call is not that of an engine call of the profile.
+    #[error("engine calls are 1 to 5, and 6 under profile 2")]
     BadCall(u16),
     /// A jump or a local call leads to no first slot of an instruction.
+    #[error("a jump or a local call ends at an instruction of the image")]
     BadTarget(u16),
     /// The last instruction is neither EXIT nor JA of either class.
+    #[error("the last instruction is exit, ja or ja32")]
     FallsOffEnd(u16),
-    /// Memory ran out.
+    #[error("out of memory")]
     Memory,
 }
 
@@ -40,11 +48,7 @@ impl LoadFault {
             LoadFault::EmptyCode => 1,
             LoadFault::RaggedCode => 2,
             LoadFault::TooLong => 3,
-            LoadFault::Decode(DecodeFault::CutWide, _) => 4,
-            LoadFault::Decode(DecodeFault::UnknownOpcode, _) => 5,
-            LoadFault::Decode(DecodeFault::BadRegister, _) => 6,
-            LoadFault::Decode(DecodeFault::ReservedField, _) => 7,
-            LoadFault::Decode(DecodeFault::WritesFramePointer, _) => 8,
+            LoadFault::Decode(fault, _) => 3 + fault.number(),
             LoadFault::BadCall(_) => 9,
             LoadFault::BadTarget(_) => 10,
             LoadFault::FallsOffEnd(_) => 11,
