@@ -1,6 +1,7 @@
 //! A line of assembly text, as it was read.
 
 use bpf_types::Line;
+use thiserror::Error;
 
 /// An instruction, and the label's name that is in place of its distance, which is then 0.
 #[derive(Clone, Copy)]
@@ -18,8 +19,10 @@ pub struct TextLine<'a> {
 
 /// Why a line by itself is no line of assembly text: it does not have the form of one, or a number
 /// in it is out of its range.
-#[derive(Clone, Copy, PartialEq, Eq, Debug)]
+#[derive(Clone, Copy, PartialEq, Eq, Debug, Error)]
 pub enum LineFault {
+    #[error("the line does not have the form of one")]
     Syntax,
+    #[error("a number is out of its range")]
     Range,
 }
