@@ -13,16 +13,18 @@ use bpf_decode::{
 };
 use core::mem::replace_with;
 use std::alloc::Allocator;
+use thiserror::Error;
 
 /// Why an image has no listing, in the order in which faults are looked for.
-#[derive(Clone, Copy, PartialEq, Eq, Debug)]
+#[derive(Clone, Copy, PartialEq, Eq, Debug, Error)]
 pub enum DisassembleFault {
-    /// The length is no multiple of 8.
+    #[error("the length is no multiple of 8")]
     Ragged,
     /// The octets from this slot on begin with no instruction that may be loaded. A slot has 8
     /// octets, and the first is slot 0.
+    #[error("slot {1}: {0}")]
     Decode(DecodeFault, usize),
-    /// Memory for the text was refused.
+    #[error("out of memory")]
     Memory,
 }
 
