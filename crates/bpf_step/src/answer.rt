@@ -4,13 +4,14 @@ ghost use Rattle.bpf_step.specs.declared.answer.MachineFault.TheVariants as faul
 ghost use Rattle.bpf_step.specs.Machine.{fault_number};
 
 use ocp_regions::AccessFault;
+use thiserror::Error;
 
 /// Why an instruction cannot be done.
-#[derive(Clone, Copy, PartialEq, Eq, Debug)]
+#[derive(Clone, Copy, PartialEq, Eq, Debug, Error)]
 pub enum MachineFault {
-    /// An access to memory is refused: outside of all regions, or a store to the arguments.
+    #[error(transparent)]
     Access(AccessFault),
-    /// A local call when the greatest number of local calls is open.
+    #[error("the greatest number of local calls is open")]
     CallDepth,
 }
 
