@@ -2,6 +2,8 @@
 ghost use Rattle.std.specs.Prelude.{◌≡◌};
 ghost use Rattle.ocp_pool.specs.Call.{number_of, r0_of, r1_of, operation_of, fault_number};
 
+use thiserror::Error;
+
 /// What an engine call did, with its values.
 ///
 /// | Number | Call | Effect | R0 | R1 |
@@ -62,9 +64,9 @@ pub enum PoolOperation {
 }
 
 /// Why an engine call is refused. Nothing changed.
-#[derive(Clone, Copy, PartialEq, Eq, Debug)]
+#[derive(Clone, Copy, PartialEq, Eq, Debug, Error)]
 pub enum PoolFault {
-    /// R1 is no index of the pool.
+    #[error("R1 is no index of the pool")]
     BadPoolIndex,
 }
 
