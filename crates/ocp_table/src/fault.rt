@@ -4,15 +4,16 @@ ghost use Rattle.ocp_table.specs.Clauses.{fault_number};
 
 use bpf_step::MachineFault;
 use ocp_pool::PoolFault;
+use thiserror::Error;
 
 /// Why a procedure ends in a fault. Its machine is as before.
-#[derive(Clone, Copy, PartialEq, Eq, Debug)]
+#[derive(Clone, Copy, PartialEq, Eq, Debug, Error)]
 pub enum ProcedureFault {
-    /// The machine can't do the instruction.
+    #[error(transparent)]
     Machine(MachineFault),
-    /// An engine call is refused.
+    #[error(transparent)]
     Pool(PoolFault),
-    /// Nothing is left of the budget.
+    #[error("nothing is left of the budget")]
     BudgetSpent,
 }
 
