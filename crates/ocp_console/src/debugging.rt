@@ -4,7 +4,7 @@ ghost use Rattle.std.specs.Prelude.{◌≡◌, ◌≤◌, length, Ok, Err, OnOk}
 ghost use Rattle.ocp_console.specs.Texts.{ending_text, place_line, switch_line, memory_line};
 
 use crate::text::{Text, push_parts, write_text};
-use ocp_debug::{DebugFault, fault_name};
+use ocp_debug::DebugFault;
 use std::alloc::{AllocError, Allocator};
 
 /// This word if a command was done, else the name of its refusal.
@@ -13,7 +13,7 @@ fn ending(word: &'static str, answer: Result<(), DebugFault>) -> &'static str
 {
     match answer {
         Ok(()) => word,
-        Err(fault) => fault_name(fault),
+        Err(fault) => fault.name(),
     }
 }
 
@@ -83,6 +83,6 @@ pub(crate) fn no_octets_text<A: Allocator>(
     ensures { OnOk result (output.new.items ≡ memory_line id address (Err fault)) }
 {
     let mut text = Text::new();
-    push_parts!(text; b"mem " => id; b" "; fault_name(fault).as_bytes(); b"\n");
+    push_parts!(text; b"mem " => id; b" "; fault.name().as_bytes(); b"\n");
     write_text(&text, output)
 }

@@ -1,5 +1,10 @@
 //! What a debugger asks of a loaded procedure.
 
+ghost use Rattle.std.specs.Prelude.{◌≡◌};
+ghost use Rattle.ocp_debug.specs.Clauses.{debug_fault_name};
+
+use thiserror::Error;
+
 /// A command that changes a procedure's breakpoints or its trace flag, and nothing else.
 #[derive(Clone, Copy, PartialEq, Eq)]
 pub enum Command {
@@ -12,20 +17,37 @@ pub enum Command {
 }
 
 /// Why a debugger's call is refused. Nothing is changed. Each call has its refusals in this order.
-#[derive(Clone, Copy, PartialEq, Eq, Debug)]
+#[derive(Clone, Copy, PartialEq, Eq, Debug, Error)]
 pub enum DebugFault {
-    /// No procedure has this id.
+    #[error("no procedure has this id")]
     NotLoaded,
-    /// The place is not the first slot of an instruction.
+    #[error("the place is not the first slot of an instruction")]
     NotAnInstruction,
-    /// A breakpoint is set there already.
+    #[error("a breakpoint is set there already")]
     AlreadySet,
-    /// Eight breakpoints are set.
+    #[error("eight breakpoints are set")]
     BreaksFull,
-    /// No breakpoint is set there.
+    #[error("no breakpoint is set there")]
     NotSet,
-    /// There is no room for a further journal entry.
+    #[error("there is no room for a further journal entry")]
     JournalFull,
-    /// Not all octets are in the procedure's memory.
+    #[error("not all octets are in the procedure's memory")]
     OutsideMemory,
+}
+
+impl DebugFault {
+    /// Its name in what the program prints.
+    pub fn name(self) -> &'static str
+        ensures { result.now ≡ debug_fault_name self }
+    {
+        match self {
+            DebugFault::NotLoaded => "NotLoaded",
+            DebugFault::NotAnInstruction => "NotAnInstruction",
+            DebugFault::AlreadySet => "AlreadySet",
+            DebugFault::BreaksFull => "BreaksFull",
+            DebugFault::NotSet => "NotSet",
+            DebugFault::JournalFull => "JournalFull",
+            DebugFault::OutsideMemory => "OutsideMemory",
+        }
+    }
 }

@@ -20,5 +20,5 @@ pub use reading::{memory, view};
 pub use ring::TraceRing;
 pub use stepping::instruction;
 pub use text::{push_outcome, push_spaced_word};
-pub use texts::{fault_name, trace_text, view_text};
+pub use texts::{trace_text, view_text};
 pub use trace::{TRACE_RECORDS, Trace};

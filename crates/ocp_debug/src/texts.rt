@@ -1,13 +1,13 @@
 //! What is printed of procedures and of trace records.
 ghost use Rattle.std.specs.Prelude.{◌≡◌, ◌≤◌, ◌<◌, ◌+◌, ◌*◌, ◌++◌, length, codes};
 ghost use Rattle.std.specs.Fmt.{decimal};
-ghost use Rattle.ocp_debug.specs.Clauses.{Appends, debug_fault_name, register_line, register_lines, trace_line, view_line, view_lines, words_text};
+ghost use Rattle.ocp_debug.specs.Clauses.{Appends, register_line, register_lines, trace_line, view_line, view_lines, words_text};
 
 use crate::text::{
     TEXT_OCTETS, Text, append_to, push_cause, push_outcome, push_pending, push_spaced_word,
     push_status,
 };
-use crate::{DebugFault, Trace, View};
+use crate::{Trace, View};
 use std::alloc::{AllocError, Allocator};
 
 /// Appends the line of a procedure's status.
@@ -133,19 +133,4 @@ pub fn trace_text<B: Allocator>(trace: &Trace, output: &mut Vec<u8, B>) -> Resul
     ensures { Appends (trace_line trace.now) output.old output.new result }
 {
     append_to(&line_of(trace), output)
-}
-
-/// The name of a refusal.
-pub fn fault_name(fault: DebugFault) -> &'static str
-    ensures { result.now ≡ debug_fault_name fault }
-{
-    match fault {
-        DebugFault::NotLoaded => "NotLoaded",
-        DebugFault::NotAnInstruction => "NotAnInstruction",
-        DebugFault::AlreadySet => "AlreadySet",
-        DebugFault::BreaksFull => "BreaksFull",
-        DebugFault::NotSet => "NotSet",
-        DebugFault::JournalFull => "JournalFull",
-        DebugFault::OutsideMemory => "OutsideMemory",
-    }
 }
