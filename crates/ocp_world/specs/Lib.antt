@@ -12,5 +12,6 @@ pub mod Round
 pub mod NextRunning
 pub mod Settled
 pub mod Laws
+pub mod Names
 pub mod Mirror
 pub mod Clauses

@@ -2,30 +2,60 @@
 
 ghost use Rattle.std.specs.Prelude.{◌≡◌, ℕ, List};
 ghost use Rattle.ocp_world.specs.Clauses.{IsDiscard, Memory, Request as Asked, World, after, discard_of, telecommand_of};
+ghost use Rattle.ocp_world.specs.Names.{engine_fault_name, put_fault_name};
 
 use pus_fields::{Discard, Tc, TcFault};
 use std::alloc::AllocError;
+use thiserror::Error;
 
 /// Why a request or a drain has no reports. Nothing is changed. Those of a request come in this
 /// order: discarded, a full journal, memory; those of a drain: nothing due, a full journal, memory.
-#[derive(Clone, Copy, PartialEq, Eq, Debug)]
+#[derive(Clone, Copy, PartialEq, Eq, Debug, Error)]
 pub enum EngineFault {
     /// The octets are no telecommand for this engine, and no report is sent.
+    #[error("discarded: {0}")]
     Discarded(Discard),
-    /// There is no room for a further journal entry.
+    #[error("there is no room for a further journal entry")]
     JournalFull,
+    #[error("out of memory")]
     Memory,
-    /// No completion waits to be reported.
+    #[error("no completion waits to be reported")]
     NothingDue,
 }
 
 /// Why a pool word is not written from outside. Nothing is changed. They come in this order.
-#[derive(Clone, Copy, PartialEq, Eq, Debug)]
+#[derive(Clone, Copy, PartialEq, Eq, Debug, Error)]
 pub enum PutFault {
-    /// The pool has no word at the index.
+    #[error("the pool has no word at the index")]
     BadPoolIndex,
-    /// There is no room for a further journal entry.
+    #[error("there is no room for a further journal entry")]
     JournalFull,
+}
+
+impl EngineFault {
+    /// Its name in what the program prints.
+    pub fn name(self) -> &'static str
+        ensures { result.now ≡ engine_fault_name self }
+    {
+        match self {
+            EngineFault::Discarded(cause) => cause.name(),
+            EngineFault::JournalFull => "JournalFull",
+            EngineFault::Memory => "Memory",
+            EngineFault::NothingDue => "NothingDue",
+        }
+    }
+}
+
+impl PutFault {
+    /// Its name in what the program prints.
+    pub fn name(self) -> &'static str
+        ensures { result.now ≡ put_fault_name self }
+    {
+        match self {
+            PutFault::BadPoolIndex => "BadPoolIndex",
+            PutFault::JournalFull => "JournalFull",
+        }
+    }
 }
 
 impl From<AllocError> for EngineFault {
