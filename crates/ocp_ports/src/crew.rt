@@ -26,10 +26,8 @@ pub trait Crew<E> {
 /// Why a crew gave no engine back.
 #[derive(Clone, Copy, Debug, Error)]
 pub enum CrewFault {
-    /// Memory ran out.
     #[error("out of memory")]
     Memory,
-    /// The work could not be closed.
-    #[error("the workers failed")]
+    #[error("the work could not be closed")]
     Workers,
 }

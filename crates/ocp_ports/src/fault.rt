@@ -10,22 +10,16 @@ use thiserror::Error;
 /// Why a run ended. The first three are the script's, in this order for each line in turn.
 #[derive(Debug, Drop, Error)]
 pub enum ConsoleFault {
-    /// There are more than 100,000 lines.
-    #[error("too many lines")]
+    #[error("there are more than 100,000 lines")]
     TooManyLines,
-    /// This line has more than 40,000 octets.
-    #[error("line {0} is too long")]
+    #[error("line {0} has more than 40,000 octets")]
     LineTooLong(u32),
-    /// This line is no command of the console.
-    #[error("line {0} is no command")]
+    #[error("line {0} is no command of the console")]
     Syntax(u32),
-    /// A read failed.
     #[error("a read failed")]
     Read,
-    /// A write failed.
     #[error("a write failed")]
     Write,
-    /// Memory ran out.
     #[error("out of memory")]
     Memory,
     /// The crew refused, for a reason other than memory.
