@@ -3,8 +3,7 @@ use Rattle.std.specs.Prelude.{◌≡◌, ◌≢◌, ◌<◌, ℕ, ◌%◌, ◌==
 use Rattle.std.specs.Fmt.{decimal}
 use Rattle.std.specs.Result.{result_ok}
 use Rattle.hex.specs.Hex.{decode_of}
-use Rattle.bpf_decode.specs.declared.fault.DecodeFault.{DecodeFault}
-use Rattle.bpf_decode.specs.declared.fault.DecodeFault.TheVariants as decode
+use Rattle.bpf_decode.specs.Faults.{decode_number}
 use Rattle.bpf_decode.specs.Images.{HasFaultAt}
 use Rattle.bpf_listing.specs.Listing.{IsListed}
 use Rattle.ocp_commands.specs.declared.listing.ListFault.{ListFault}
@@ -32,14 +31,6 @@ abbrev pub image_in : List ℕ → Option (List ℕ)
 image_in text = result_ok (decode_of (digits_of text))
 
 -- ---- faults
-
--- the number of a decode fault
-abbrev pub decode_number : DecodeFault → ℕ
-decode_number decode.CutWide = 1
-decode_number decode.UnknownOpcode = 2
-decode_number decode.BadRegister = 3
-decode_number decode.ReservedField = 4
-decode_number decode.WritesFramePointer = 5
 
 -- the line of a fault
 abbrev pub list_fault_line : ListFault → List ℕ

@@ -4,7 +4,7 @@ ghost use Rattle.std.specs.Prelude.{◌≡◌, List, ℕ, ◌<◌, ◌-◌, ◌^
 ghost use Rattle.ocp_ports.specs.Outcomes.{TellsReads, TellsWrites};
 ghost use Rattle.ocp_ports.specs.Reading.{IsShort, LeavesWhile};
 ghost use Rattle.ocp_commands.specs.Commands.{Writes, IsMachineFault};
-ghost use Rattle.ocp_commands.specs.Listings.{is_blank, digits_of, decode_number, list_fault_line, HasImage, HasListFault, Lists};
+ghost use Rattle.ocp_commands.specs.Listings.{is_blank, digits_of, list_fault_line, HasImage, HasListFault, Lists};
 
 use crate::output::{Output, write_output};
 use bpf_canonical::MAX_TEXT_LENGTH;
@@ -27,18 +27,6 @@ pub(crate) enum ListFault {
     Decode(DecodeFault, usize),
 }
 
-fn number_of(fault: DecodeFault) -> u32
-    ensures { result ≡ decode_number fault }
-{
-    match fault {
-        DecodeFault::CutWide => 1,
-        DecodeFault::UnknownOpcode => 2,
-        DecodeFault::BadRegister => 3,
-        DecodeFault::ReservedField => 4,
-        DecodeFault::WritesFramePointer => 5,
-    }
-}
-
 /// The line of a fault.
 fn fault_line<A: Allocator>(alloc: A, fault: ListFault) -> Result<String<A>, AllocError>
     ensures { IfOk result (λ line. string_bytes line ≡ list_fault_line fault) }
@@ -48,7 +36,7 @@ fn fault_line<A: Allocator>(alloc: A, fault: ListFault) -> Result<String<A>, All
         ListFault::Hex => error_text(alloc, 0, "Hex"),
         ListFault::Ragged => error_text(alloc, 0, "Ragged"),
         ListFault::Decode(why, slot) => {
-            let number = number_of(why);
+            let number = why.number();
             let text = format!(in alloc; "error {slot} Decode {number}\n")?;
             Ok(text)
         }
