@@ -2,6 +2,7 @@
 
 use crate::{DebugFault, EngineFault, PutFault, Reports, StepOutcome};
 use std::alloc::{Allocator, Global};
+use thiserror::Error;
 
 /// What an event of a run was answered.
 #[derive(Drop)]
@@ -14,9 +15,11 @@ pub enum Answer<A: Allocator = Global> {
 }
 
 /// Why a run ended before an event.
-#[derive(Clone, Copy, PartialEq, Eq, Debug)]
+#[derive(Clone, Copy, PartialEq, Eq, Debug, Error)]
 pub enum RunRefusal {
+    #[error("there is no room for a further journal entry")]
     JournalFull,
+    #[error("out of memory")]
     Memory,
 }
 
