@@ -17,6 +17,7 @@ use Rattle.ocp_debug.specs.Traces.{last_traces}
 use Rattle.ocp_debug.specs.Texts.{view_lines, trace_line}
 use Rattle.ocp_world.specs.declared.answers.EngineFault.TheVariants as fault
 use Rattle.ocp_world.specs.declared.answers.PutFault.{PutFault}
+use Rattle.ocp_world.specs.Names.{engine_fault_name}
 use Rattle.ocp_world.specs.After.{Answer, Requested, Stepped, Commanded, Written}
 use Rattle.ocp_world.specs.World as event
 use Rattle.ocp_core.specs.Log.{Log, empty_log, expand, world_of, answer_in, log_after}
@@ -63,9 +64,8 @@ opening settings = record {
 abbrev pub answer_text : Answer → List ℕ
 answer_text (Requested (Ok reports)) = flat_map report_line reports
 answer_text (Requested (Err (fault.Discarded why))) = discard_line why
-answer_text (Requested (Err fault.NothingDue)) = refusal_line (codes "NothingDue")
-answer_text (Requested (Err fault.JournalFull)) = refusal_line (codes "JournalFull")
 answer_text (Requested (Err fault.Memory)) = []
+answer_text (Requested (Err refused)) = refusal_line (engine_fault_name refused)
 answer_text (Stepped outcome) = []
 answer_text (Commanded result) = []
 answer_text (Written result) = []

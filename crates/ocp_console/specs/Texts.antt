@@ -6,13 +6,13 @@ use Rattle.pus_fields.specs.Telemetry.{Telemetry}
 use Rattle.pus_fields.specs.TelemetryFaults.{telemetry_of}
 use Rattle.pus_fields.specs.declared.fault.TmFault.{TmFault}
 use Rattle.pus_fields.specs.declared.fault.Discard.{Discard}
-use Rattle.pus_fields.specs.declared.fault.Discard.TheVariants as discard
+use Rattle.pus_fields.specs.TelecommandFaults.{discard_name}
 use Rattle.ocp_table.specs.declared.answers.Round.{Round}
 use Rattle.ocp_table.specs.declared.answers.StepOutcome.{StepOutcome}
 use Rattle.ocp_debug.specs.declared.command.DebugFault.{DebugFault}
 use Rattle.ocp_debug.specs.Texts.{word_text, outcome_text, debug_fault_name}
 use Rattle.ocp_world.specs.declared.answers.PutFault.{PutFault}
-use Rattle.ocp_world.specs.declared.answers.PutFault.TheVariants as put
+use Rattle.ocp_world.specs.Names.{put_fault_name}
 
 -- ---- reports
 
@@ -36,13 +36,6 @@ pub record HasLine (packet : List ℕ) : Type 0 where
   pub said : Telemetry
   pub read : telemetry_of packet ≡ Ok said
   pub line : report_line packet ≡ telemetry_line said
-
-abbrev pub discard_name : Discard → List ℕ
-discard_name discard.Short = codes "Short"
-discard_name discard.Version = codes "Version"
-discard_name discard.Length = codes "Length"
-discard_name discard.NotTelecommand = codes "NotTelecommand"
-discard_name discard.OtherApid = codes "OtherApid"
 
 abbrev pub discard_line : Discard → List ℕ
 discard_line why = codes "discarded " ++ discard_name why ++ codes "\n"
@@ -132,8 +125,7 @@ pool_line index (Some word) =
 -- how a write of a word ended: it was done, or the name of its refusal
 abbrev pub put_ending : Result (Unit {0}) PutFault → List ℕ
 put_ending (Ok done) = codes "set"
-put_ending (Err put.BadPoolIndex) = codes "BadPoolIndex"
-put_ending (Err put.JournalFull) = codes "JournalFull"
+put_ending (Err fault) = put_fault_name fault
 
 -- `put <index> <value> set`, or with the refusal's name
 abbrev pub put_line : ℕ → ℕ → Result (Unit {0}) PutFault → List ℕ

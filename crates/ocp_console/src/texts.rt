@@ -3,12 +3,12 @@
 ghost use Rattle.std.specs.Prelude.{◌≡◌, ◌≢◌, ◌≤◌, ◌+◌, ◌++◌, Err, codes, length, OnOk};
 ghost use Rattle.ocp_world.specs.After.{Requested};
 ghost use Rattle.ocp_console.specs.Answering.{answer_text};
-ghost use Rattle.ocp_console.specs.Texts.{report_line, discard_name, step_line, step_end_text, round_line, pool_line, put_ending, put_line, journal_line, work_line};
+ghost use Rattle.ocp_console.specs.Texts.{report_line, step_line, step_end_text, round_line, pool_line, put_ending, put_line, journal_line, work_line};
 
 use crate::text::{Text, push_parts, write_text};
 use ocp_core::{EngineFault, PutFault, Reports, Round, Slice};
 use ocp_debug::{push_outcome, push_spaced_word};
-use pus_fields::{Discard, read_tm};
+use pus_fields::read_tm;
 use std::alloc::{AllocError, Allocator};
 
 /// Appends the line of a report.
@@ -32,18 +32,6 @@ fn push_report<A: Allocator + Copy>(
     output.extend_from_slice(payload.as_bytes())?;
     output.push(b'\n')?;
     Ok(())
-}
-
-fn name_of_discard(why: Discard) -> &'static str
-    ensures { result.now ≡ discard_name why }
-{
-    match why {
-        Discard::Short => "Short",
-        Discard::Version => "Version",
-        Discard::Length => "Length",
-        Discard::NotTelecommand => "NotTelecommand",
-        Discard::OtherApid => "OtherApid",
-    }
 }
 
 /// The line of a packet that is discarded, or of a request or a drain that is refused, for the
@@ -76,13 +64,10 @@ pub(crate) fn answer_text<A: Allocator + Copy>(
             Ok(())
         }
         Err(EngineFault::Discarded(why)) => {
-            write_text(&reason_text(b"discarded ", name_of_discard(why)), output)
-        }
-        Err(EngineFault::NothingDue) => write_text(&reason_text(b"refused ", "NothingDue"), output),
-        Err(EngineFault::JournalFull) => {
-            write_text(&reason_text(b"refused ", "JournalFull"), output)
+            write_text(&reason_text(b"discarded ", why.name()), output)
         }
         Err(EngineFault::Memory) => Err(AllocError),
+        Err(fault) => write_text(&reason_text(b"refused ", fault.name()), output),
     }
 }
 
@@ -135,8 +120,7 @@ fn put_ending(answer: Result<(), PutFault>) -> &'static str
 {
     match answer {
         Ok(()) => "set",
-        Err(PutFault::BadPoolIndex) => "BadPoolIndex",
-        Err(PutFault::JournalFull) => "JournalFull",
+        Err(fault) => fault.name(),
     }
 }
 
