@@ -1,14 +1,15 @@
 -- What an event does to an engine with any store of its entries: a store is seen as any value, with
 -- the log of all its entries, whether there is no room for an entry, and the store with one more.
-use Rattle.std.specs.Prelude.{◌≡◌, ℕ, Bool, if◌then◌else◌, List, Ok}
+use Rattle.std.specs.Prelude.{◌≡◌, ℕ, Bool, false, if◌then◌else◌, List, Ok}
 use Rattle.ocp_table.specs.declared.answers.Slice.{Slice}
 use Rattle.ocp_table.specs.declared.answers.Round.{Round}
-use Rattle.ocp_world.specs.World.{World, Event, Step}
+use Rattle.ocp_world.specs.World.{Event, Step}
 use Rattle.ocp_world.specs.After.{Answer, Requested, after, is_accepted}
 use Rattle.ocp_world.specs.Slice.{slice_count}
 use Rattle.ocp_world.specs.Round.{round_budget}
-use Rattle.ocp_core.specs.Log.{Log, Entry, Steps, world_of, entry_for, answer_with}
+use Rattle.ocp_core.specs.Log.{Log, Entry, Steps, events_of, world_of, entry_for, answer_with}
 use Rattle.ocp_core.specs.Marks.{mark_in}
+use Rattle.ocp_core.specs.Mirror.Counted.{AreCounted}
 use Rattle.ocp_core.specs.Slice.{slice_with}
 use Rattle.ocp_core.specs.Round.{round_of}
 
@@ -50,7 +51,15 @@ abbrev pub round_store : {S : Type 0} → (S → Log) → (S → Entry → Bool)
 round_store log is_full with_entry s by id budget =
     slice_store log is_full with_entry s by id (round_budget (world_of (log s)) by id budget)
 
--- what was kept of reports holds those that answer the entry's event
-abbrev pub HoldsAnswer : {K : Type 0} → (K → List (List ℕ) → Type 0) → K → World → Entry → Type 0
-HoldsAnswer holds kept w entry =
-    (reports : List (List ℕ)) × holds kept reports × (Requested (Ok reports) ≡ mark_in w entry)
+module _ {S : Type 0} (log : S → Log) (is_full : S → Entry → Bool) where
+  -- an entry may be added to a store: there is room for it, all its events are accepted, and its
+  -- mark is what they are answered
+  pub record MayAdd (s : S) (entry : Entry) (answer : Answer) : Type 0 where
+    pub room : is_full s entry ≡ false
+    pub accepted : AreCounted (world_of (log s)) (events_of entry)
+    pub mark : answer ≡ mark_in (world_of (log s)) entry
+
+  -- it may be added with the reports that what was kept of them holds
+  abbrev pub MayAddReports : {K : Type 0} → (K → List (List ℕ) → Type 0) → K → S → Entry → Type 0
+  MayAddReports holds kept s entry =
+      (reports : List (List ℕ)) × holds kept reports × MayAdd s entry (Requested (Ok reports))

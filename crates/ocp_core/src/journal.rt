@@ -1,10 +1,9 @@
 //! The journal.
 
-ghost use Rattle.std.specs.Prelude.{◌≡◌, ◌≤◌, ◌<◌, ◌^◌, map, length, IfOk, false};
-ghost use Rattle.ocp_core.specs.Clauses.{Log, MAX_APID, MAX_CAPACITY, MAX_POOL_WORDS, empty_log, entries_with_marks, entry_of, entry_with_mark, events_of, expand, is_full, mark_in, mark_of, with_entry, world_of};
+ghost use Rattle.std.specs.Prelude.{◌≡◌, ◌≤◌, ◌<◌, ◌^◌, map, length, IfOk};
+ghost use Rattle.ocp_core.specs.Clauses.{Log, MAX_APID, MAX_CAPACITY, MAX_POOL_WORDS, empty_log, entries_with_marks, entry_of, entry_with_mark, expand, is_full, mark_of, MayAdd, with_entry, world_of};
 ghost use Rattle.ocp_core.specs.Mirror.Codes.{log_code};
 ghost use Rattle.ocp_core.specs.Mirror.Kept.{log_of, IsKept};
-ghost use Rattle.ocp_core.specs.Mirror.Counted.{AreCounted};
 
 use crate::{Command, Entry, Note, Octets, Reports, RequestStore, StepOutcome, Store};
 use ocp_profile::Profile;
@@ -125,9 +124,8 @@ impl<A: Allocator> Journal<A> {
 
     /// Adds an entry, whose events are accepted, and whose mark is the answer that they are given.
     pub(crate) fn push(&mut self, entry: Entry<A>)
-        requires room { is_full self.old ≡ false }
-        requires accepted { AreCounted (world_of self.old) (events_of (entry_of entry)) }
-        requires mark { mark_of entry ≡ mark_in (world_of self.old) (entry_of entry) }
+        requires { MayAdd (λ log. log) (λ log e. is_full log) self.old (entry_of entry)
+            (mark_of entry) }
         ensures { self.new ≡ with_entry self.old (entry_of entry) }
     {
         self.events += entry.events();

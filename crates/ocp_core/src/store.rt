@@ -1,9 +1,8 @@
 //! What keeps the entries of an engine.
 
-ghost use Rattle.std.specs.Prelude.{◌≡◌, ◌≤◌, ℕ, Bool, true, false, List, Ok, IfOk, OnErr};
+ghost use Rattle.std.specs.Prelude.{◌≡◌, ◌≤◌, ℕ, Bool, true, List, Ok, IfOk, OnErr};
 ghost use Rattle.ocp_core.specs.Log as logs;
-ghost use Rattle.ocp_core.specs.Clauses.{MAX_APID, Commanded, HoldsAnswer, Stepped, Written, events_of, mark_in, note_entry, world_of};
-ghost use Rattle.ocp_core.specs.Mirror.Counted.{AreCounted};
+ghost use Rattle.ocp_core.specs.Clauses.{MAX_APID, Commanded, MayAdd, MayAddReports, Stepped, Written, note_entry, world_of};
 
 use crate::{Command, Note, StepOutcome};
 use ocp_world::Keeps;
@@ -37,29 +36,17 @@ pub trait Store {
     /// Adds the entry of instructions, all of them accepted, with the outcome of the last.
     fn push_steps(&mut self, by: u16, id: u16, count: u32, last: StepOutcome)
         requires some { 1 ≤ count }
-        requires room { is_full self.old (logs.Steps by id count) ≡ false }
-        requires accepted { AreCounted (world_of (log self.old))
-            (events_of (logs.Steps by id count)) }
-        requires mark { Stepped last ≡
-            mark_in (world_of (log self.old)) (logs.Steps by id count) }
+        requires may { MayAdd log is_full self.old (logs.Steps by id count) (Stepped last) }
         ensures { self.new ≡ with_entry self.old (logs.Steps by id count) };
 
     /// Adds the entry of a debugger's command that was done.
     fn push_command(&mut self, by: u16, id: u16, command: Command)
-        requires room { is_full self.old (logs.Debugged by id command) ≡ false }
-        requires accepted { AreCounted (world_of (log self.old))
-            (events_of (logs.Debugged by id command)) }
-        requires mark { Commanded (Ok tt) ≡
-            mark_in (world_of (log self.old)) (logs.Debugged by id command) }
+        requires { MayAdd log is_full self.old (logs.Debugged by id command) (Commanded (Ok tt)) }
         ensures { self.new ≡ with_entry self.old (logs.Debugged by id command) };
 
     /// Adds the entry of a write of a pool word that was done.
     fn push_word(&mut self, by: u16, index: u16, value: u64)
-        requires room { is_full self.old (logs.Wrote by index value) ≡ false }
-        requires accepted { AreCounted (world_of (log self.old))
-            (events_of (logs.Wrote by index value)) }
-        requires mark { Written (Ok tt) ≡
-            mark_in (world_of (log self.old)) (logs.Wrote by index value) }
+        requires { MayAdd log is_full self.old (logs.Wrote by index value) (Written (Ok tt)) }
         ensures { self.new ≡ with_entry self.old (logs.Wrote by index value) };
 
     // The entry is one more of the log.
@@ -102,11 +89,8 @@ pub trait RequestStore: Store {
         copy: Self::KeptOctets,
         kept: <Self::Keeper as Keeps>::Kept,
     ) -> Self::Receipt
-        requires room { Self.is_full self.old (logs.Asked by time octets.now) ≡ false }
-        requires accepted { AreCounted (world_of (Self.log self.old))
-            (events_of (logs.Asked by time octets.now)) }
         requires copied { keeps_octets copy octets.now }
-        requires mark { HoldsAnswer Self.Keeper.holds kept (world_of (Self.log self.old))
+        requires may { MayAddReports Self.log Self.is_full Self.Keeper.holds kept self.old
             (logs.Asked by time octets.now) }
         ensures store { self.new ≡ Self.with_entry self.old (logs.Asked by time octets.now) }
         ensures receipt { (reports : List (List ℕ)) → Self.Keeper.holds kept reports →
@@ -119,10 +103,7 @@ pub trait RequestStore: Store {
         time: u32,
         kept: <Self::Keeper as Keeps>::Kept,
     ) -> Self::Receipt
-        requires room { Self.is_full self.old (logs.Drained by time) ≡ false }
-        requires accepted { AreCounted (world_of (Self.log self.old))
-            (events_of (logs.Drained by time)) }
-        requires mark { HoldsAnswer Self.Keeper.holds kept (world_of (Self.log self.old))
+        requires { MayAddReports Self.log Self.is_full Self.Keeper.holds kept self.old
             (logs.Drained by time) }
         ensures store { self.new ≡ Self.with_entry self.old (logs.Drained by time) }
         ensures receipt { (reports : List (List ℕ)) → Self.Keeper.holds kept reports →

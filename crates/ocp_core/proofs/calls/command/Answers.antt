@@ -26,15 +26,14 @@ returns-then-is_full-clause-store g c =
     let w : World = world_of (g.S.Store.log c.args.store.now) in
     full_store g.S.Store.log g.S.Store.is_full g.S.Store.with_entry c.args.store.now (Debug c.args.by c.args.id c.args.command) (c.in_default.ensures.answer w c.args.by c.requires.stands) (sym c.is_full.ensures ∙ c.if-is_full.true)
 
-pub push_command-requires-clause-accepted : goal.push_command-requires-clause-accepted
-push_command-requires-clause-accepted g c =
+pub push_command-requires : goal.push_command-requires
+push_command-requires g c =
     let w : World = world_of (g.S.Store.log c.args.store.now) in
-    counted w (Debug c.args.by c.args.id c.args.command) (c.in_default.ensures.answer w c.args.by c.requires.stands)
-
-pub push_command-requires-clause-mark : goal.push_command-requires-clause-mark
-push_command-requires-clause-mark g c =
-    let w : World = world_of (g.S.Store.log c.args.store.now) in
-    c.enact.ensures.answer w c.args.by c.requires.stands
+    record {
+      room = sym c.is_full.ensures ∙ c.if-is_full.false;
+      accepted = counted w (Debug c.args.by c.args.id c.args.command) (c.in_default.ensures.answer w c.args.by c.requires.stands);
+      mark = c.enact.ensures.answer w c.args.by c.requires.stands;
+    }
 
 pub returns-clause-answer : goal.returns-clause-answer
 returns-clause-answer g c =

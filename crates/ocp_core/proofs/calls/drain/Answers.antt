@@ -29,11 +29,16 @@ returns-in_err-kept-clause-answer g c =
 pub returns-in_err-kept-clause-world : goal.returns-in_err-kept-clause-world
 returns-in_err-kept-clause-world g c = (c.in_err-kept.ensures.does _ c.args.by c.requires.stands).1
 
-pub push_drain-requires-clause-accepted : goal.push_drain-requires-clause-accepted
-push_drain-requires-clause-accepted g c = counted _ (Drain c.args.by c.args.time) (due_at _ _ c.args.by c.args.time c.requires.stands _ c.is_due.ensures c.if-not-is_due.false)
-
-pub push_drain-requires-clause-mark : goal.push_drain-requires-clause-mark
-push_drain-requires-clause-mark g c = (c.report_due.new.packets, c.in_ok-kept.ensures.kept, sym (c.in_ok-kept.ensures.does _ c.args.by c.requires.stands).0)
+pub push_drain-requires : goal.push_drain-requires
+push_drain-requires g c = (
+  c.report_due.new.packets,
+  c.in_ok-kept.ensures.kept,
+  record {
+    room = sym c.is_full.ensures ∙ c.if-is_full.false;
+    accepted = counted _ (Drain c.args.by c.args.time) (due_at _ _ c.args.by c.args.time c.requires.stands _ c.is_due.ensures c.if-not-is_due.false);
+    mark = sym (c.in_ok-kept.ensures.does _ c.args.by c.requires.stands).0;
+  },
+)
 
 pub returns-clause-answer : goal.returns-clause-answer
 returns-clause-answer g c =

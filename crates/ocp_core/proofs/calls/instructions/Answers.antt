@@ -41,22 +41,18 @@ push_steps-requires-clause-some g c =
     let most : ℕ = most_events c.args.extent w c.args.by c.args.id c.args.budget in
     omega (arith, c.instructions-round.ensures.count w c.args.by c.requires.stands, slice_count_some w c.args.by c.args.id most (most_some c.args.extent w c.args.by c.args.id c.args.budget c.requires.some))
 
-pub push_steps-requires-clause-room : goal.push_steps-requires-clause-room
-push_steps-requires-clause-room g c = g.met.S.Store.fills_alike c.args.store.now c.args.by c.args.id _ 1 ∙ sym c.is_full.ensures ∙ c.if-is_full.false
-
-pub push_steps-requires-clause-accepted : goal.push_steps-requires-clause-accepted
-push_steps-requires-clause-accepted g c =
-    let w : World = world_of (g.S.Store.log c.args.store.now) in
-    let taken = c.in_default.ensures w c.args.by c.requires.stands in
-    counted_steps w c.args.by c.args.id c.instructions-round.result.count (c.instructions-round.ensures.events w c.args.by c.requires.stands taken)
-
-pub push_steps-requires-clause-mark : goal.push_steps-requires-clause-mark
-push_steps-requires-clause-mark g c =
+pub push_steps-requires-clause-may : goal.push_steps-requires-clause-may
+push_steps-requires-clause-may g c =
     let w : World = world_of (g.S.Store.log c.args.store.now) in
     let most : ℕ = most_events c.args.extent w c.args.by c.args.id c.args.budget in
+    let taken = c.in_default.ensures w c.args.by c.requires.stands in
     let count = c.instructions-round.ensures.count w c.args.by c.requires.stands in
     let last = c.instructions-round.ensures.last w c.args.by c.requires.stands in
-    ap Stepped (last ∙ sym (slice_mark w c.args.by c.args.id Ran most) ∙ ap (last_outcome w c.args.by c.args.id Ran) (sym count))
+    record {
+      room = g.met.S.Store.fills_alike c.args.store.now c.args.by c.args.id _ 1 ∙ sym c.is_full.ensures ∙ c.if-is_full.false;
+      accepted = counted_steps w c.args.by c.args.id c.instructions-round.result.count (c.instructions-round.ensures.events w c.args.by c.requires.stands taken);
+      mark = ap Stepped (last ∙ sym (slice_mark w c.args.by c.args.id Ran most) ∙ ap (last_outcome w c.args.by c.args.id Ran) (sym count));
+    }
 
 pub returns-clause-slice : goal.returns-clause-slice
 returns-clause-slice g c =

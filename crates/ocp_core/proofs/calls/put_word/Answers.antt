@@ -32,17 +32,16 @@ returns-then-is_full-clause-store g c =
     let no_room = ap (λ i. g.S.Store.is_full c.args.store.now (Wrote c.args.by i c.args.value)) (sym c.in-Some.ensures.word.0) ∙ sym c.is_full.ensures ∙ c.if-is_full.true in
     full_store g.S.Store.log g.S.Store.is_full g.S.Store.with_entry c.args.store.now (Put c.args.by c.args.index c.args.value) (ap is_accepted told) no_room
 
-pub push_word-requires-clause-accepted : goal.push_word-requires-clause-accepted
-push_word-requires-clause-accepted g c =
+pub push_word-requires : goal.push_word-requires
+push_word-requires g c =
     let w : World = world_of (g.S.Store.log c.args.store.now) in
     let told = c.in-Some.ensures.answer w c.args.by c.args.value c.requires.stands in
-    counted w (Put c.args.by c.in-Some.index c.args.value) (subst (λ i. is_accepted (after w (Put c.args.by i c.args.value)).answer ≡ true) (sym c.in-Some.ensures.word.0) (ap is_accepted told))
-
-pub push_word-requires-clause-mark : goal.push_word-requires-clause-mark
-push_word-requires-clause-mark g c =
-    let w : World = world_of (g.S.Store.log c.args.store.now) in
-    let told = c.in-Some.ensures.answer w c.args.by c.args.value c.requires.stands in
-    subst (λ i. Written (Ok tt) ≡ (after w (Put c.args.by i c.args.value)).answer) (sym c.in-Some.ensures.word.0) (sym told)
+    let same = sym c.in-Some.ensures.word.0 in
+    record {
+      room = sym c.is_full.ensures ∙ c.if-is_full.false;
+      accepted = counted w (Put c.args.by c.in-Some.index c.args.value) (subst (λ i. is_accepted (after w (Put c.args.by i c.args.value)).answer ≡ true) same (ap is_accepted told));
+      mark = subst (λ i. Written (Ok tt) ≡ (after w (Put c.args.by i c.args.value)).answer) same (sym told);
+    }
 
 pub returns-clause-answer : goal.returns-clause-answer
 returns-clause-answer g c =

@@ -36,13 +36,17 @@ returns-in_err-kept-clause-answer g c =
 pub returns-in_err-kept-clause-world : goal.returns-in_err-kept-clause-world
 returns-in_err-kept-clause-world g c = (c.in_err-kept.ensures.does _ c.args.by c.args.octets.now c.requires.stands c.events.ensures (as_read _ _ _ c.apid.ensures.value _ c.read_tc-read.ensures.value)).1
 
-pub push_request-requires-clause-accepted : goal.push_request-requires-clause-accepted
-push_request-requires-clause-accepted g c = counted _ (Request c.args.by c.args.time c.args.octets.now) (taken_at (g.S.Store.log c.args.store.now) c.args.by c.args.time c.args.octets.now _ c.apid.ensures.value _ c.read_tc-read.ensures.value _ c.discard_of.ensures.answer c.in_default.is)
-
-pub push_request-requires-clause-mark : goal.push_request-requires-clause-mark
-push_request-requires-clause-mark g c =
-    let does = c.in_ok-kept.ensures.does _ c.args.by c.args.octets.now c.requires.stands c.events.ensures (as_read _ _ _ c.apid.ensures.value _ c.read_tc-read.ensures.value) in
-    (c.receive.new.packets, c.in_ok-kept.ensures.kept, sym does.0)
+pub push_request-requires-clause-may : goal.push_request-requires-clause-may
+push_request-requires-clause-may g c =
+    let does = c.in_ok-kept.ensures.does _ c.args.by c.args.octets.now c.requires.stands c.events.ensures (as_read _ _ _ c.apid.ensures.value _ c.read_tc-read.ensures.value) in (
+      c.receive.new.packets,
+      c.in_ok-kept.ensures.kept,
+      record {
+        room = sym c.is_full.ensures ∙ c.if-is_full.false;
+        accepted = counted _ (Request c.args.by c.args.time c.args.octets.now) (taken_at (g.S.Store.log c.args.store.now) c.args.by c.args.time c.args.octets.now _ c.apid.ensures.value _ c.read_tc-read.ensures.value _ c.discard_of.ensures.answer c.in_default.is);
+        mark = sym does.0;
+      },
+    )
 
 pub returns-clause-answer : goal.returns-clause-answer
 returns-clause-answer g c =

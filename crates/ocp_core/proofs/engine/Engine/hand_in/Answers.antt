@@ -48,17 +48,15 @@ returns-clause-work g c =
     ∙ ap (λ m. record { id = work.id; base = work.base; end = m; count = 0 }) given in
     subst (λ w. (record { id = work.id; base = c.deref_mut.result.now.base; end = c.settle.new.machine; count = 0 }) ≡ work_after w (Committed work.count)) c.work.view_is same
 
-pub push_steps-requires-clause-accepted : goal.push_steps-requires-clause-accepted
-push_steps-requires-clause-accepted g c =
+pub push_steps-requires-clause-may : goal.push_steps-requires-clause-may
+push_steps-requires-clause-may g c =
     let work : WorkContents = record { id = c.work.inside.id; base = c.work.inside.parts.value.base; end = c.work.inside.parts.value.machine; count = c.work.inside.count } in
     let fresh = subst (λ p. IsFresh c.self.inside.journal (record work { base = p.base })) c.deref.ensures (fresh_at _ c.self.inside.journal _ _ c.self.invariant (ap snapshot_at c.in-Some.ensures.some ∙ c.is_at.ensures.same.0 c.if-not-is_at.false)) in
-    counted_commit c.instructions_done_alone_are_events.ensures.world c.self.inside.journal c.args.by work c.if-count-eq0.false fresh c.work.invariant
-
-pub push_steps-requires-clause-mark : goal.push_steps-requires-clause-mark
-push_steps-requires-clause-mark g c =
-    let work : WorkContents = record { id = c.work.inside.id; base = c.work.inside.parts.value.base; end = c.work.inside.parts.value.machine; count = c.work.inside.count } in
-    let fresh = subst (λ p. IsFresh c.self.inside.journal (record work { base = p.base })) c.deref.ensures (fresh_at _ c.self.inside.journal _ _ c.self.invariant (ap snapshot_at c.in-Some.ensures.some ∙ c.is_at.ensures.same.0 c.if-not-is_at.false)) in
-    ap Stepped (sym (commit_mark c.instructions_done_alone_are_events.ensures.answers c.self.inside.journal c.args.by work c.if-count-eq0.false fresh c.work.invariant))
+    record {
+      room = sym c.is_full.ensures ∙ c.if-is_full.false;
+      accepted = counted_commit c.instructions_done_alone_are_events.ensures.world c.self.inside.journal c.args.by work c.if-count-eq0.false fresh c.work.invariant;
+      mark = ap Stepped (sym (commit_mark c.instructions_done_alone_are_events.ensures.answers c.self.inside.journal c.args.by work c.if-count-eq0.false fresh c.work.invariant));
+    }
 
 pub returns-then-count-eq0-clause-gain : goal.returns-then-count-eq0-clause-gain
 returns-then-count-eq0-clause-gain g c = grows_none _ _ _ refl refl
