@@ -1,6 +1,7 @@
 //! One procedure of a journal, by itself.
 
 ghost use Rattle.std.specs.Prelude.{◌≡◌, ◌≤◌, ◌<◌, ℕ, IfOk, replicate};
+ghost use Rattle.ocp_world.specs.World.{Drain};
 ghost use Rattle.ocp_world.specs.Mirror.State.{IsWorld};
 ghost use Rattle.ocp_core.specs.Clauses.{MAX_APID, Put, Step, World, after, alone_after, entry_of, events_of, expand, get, machine_of, replay_from, world_of};
 
@@ -21,6 +22,17 @@ fn write<A: Allocator>(state: &mut State<A>, index: u16, value: u64)
     refused_events_change_nothing();
     if let Some(index) = state.word_index(u64::from(index)) {
         state.put_word(index, value);
+    }
+}
+
+// Reports the completions that wait, if any does.
+fn drain<A: Allocator>(state: &mut State<A>, time: u32, packets: &mut PacketBuffer<A>)
+    ensures { (w : World) (by : ℕ) → IsWorld w state.old →
+        IsWorld (after w (Drain by time)).world state.new }
+{
+    refused_events_change_nothing();
+    if state.is_due() {
+        let _result = state.report_due(&mut Nothing, time, packets);
     }
 }
 
@@ -62,9 +74,7 @@ fn enter<A: Allocator, B: Allocator>(
         Entry::Trace { id, on, .. } => {
             let _result = state.command(*id, Command::SetTrace(*on));
         }
-        Entry::Drain { time, .. } => {
-            let _result = state.drain(&mut Nothing, *time, packets);
-        }
+        Entry::Drain { time, .. } => drain(state, *time, packets),
         Entry::PutWord { index, value, .. } => write(state, *index, *value),
     }
 }

@@ -19,25 +19,7 @@ impl<A: Allocator> State<A> {
 
     /// Writes the reports of all completions that wait, the oldest first, at this time, each to the
     /// source of its request. Then none waits. The keeper keeps them before anything is changed. It
-    /// fails if none waits, and if the keeper finds no memory; then nothing is changed.
-    pub fn drain<K: Keeps>(
-        &mut self,
-        keeper: &mut K,
-        time: u32,
-        packets: &mut PacketBuffer<A>,
-    ) -> Result<K::Kept, EngineFault>
-        ensures does { (w : World) (by : ℕ) → IsWorld w self.old →
-            DoesIn w (effect_of w (Drain by time)) (with_packets result packets.new) self.new }
-        ensures kept { IfOk result (λ kept. K.holds kept packets.new) }
-        ensures memory { result ≡ Err engine.Memory → K.refused keeper.new ≡ true }
-    {
-        if !self.is_due() {
-            return Err(EngineFault::NothingDue);
-        }
-        self.report_due(keeper, time, packets)
-    }
-
-    /// `drain` of a state in which a completion waits.
+    /// fails only if the keeper finds no memory; then nothing is changed.
     pub fn report_due<K: Keeps>(
         &mut self,
         keeper: &mut K,

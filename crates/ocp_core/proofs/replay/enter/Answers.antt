@@ -1,6 +1,6 @@
 use Rattle.std.proofs.Common.{sym, ap, subst, ◌∙◌}
 use Rattle.pus_fields.specs.TelecommandFaults.{telecommand_of}
-use Rattle.ocp_world.specs.World.{Request as Asked, Drain}
+use Rattle.ocp_world.specs.World.{Request as Asked}
 use Rattle.ocp_world.specs.After.{after}
 use Rattle.ocp_world.specs.Replay.{replay_from}
 use Rattle.ocp_world.specs.Mirror.State.{IsWorld}
@@ -34,8 +34,8 @@ returns-in-Trace g c w stands same numbered =
 
 pub returns-in-Drain : goal.returns-in-Drain
 returns-in-Drain g c w stands same numbered =
-    subst (λ e. IsWorld (replay_from w (events_of (entry_of e))) c.drain-result.new.self) (sym c.in-Drain.is)
-    (stands_after c.refused_events_change_nothing.ensures w (Drain c.in-Drain.by c.in-Drain.time) c.drain-result.new.self _ (memory_found c.drain-result.result c.drain-result.new.packets c.drain-result.ensures.memory) (c.drain-result.ensures.does w c.in-Drain.by stands))
+    subst (λ e. IsWorld (replay_from w (events_of (entry_of e))) c.drain.new.state) (sym c.in-Drain.is)
+    (c.drain.ensures w c.in-Drain.by stands)
 
 pub returns-in-PutWord : goal.returns-in-PutWord
 returns-in-PutWord g c w stands same numbered =
