@@ -42,7 +42,7 @@ pub fn instructions<S: Store, A: Allocator>(
     ensures within { result.count ≤ budget }
 {
     let place = state.table.place(id);
-    if let Some(last) = state.refusal(id, place) {
+    if let Some(last) = state.table.refusal(id, place) {
         return Round {
             count: 0,
             last,

@@ -15,7 +15,7 @@ pub use Rattle.ocp_world.specs.declared.answers.EngineFault.TheVariants.{Memory,
 pub use Rattle.ocp_world.specs.World.{World, Request, Drain, Event, Step, Debug, Put, opening}
 pub use Rattle.ocp_world.specs.After.{after, effect_of, Requested, Stepped, Commanded, Written}
 pub use Rattle.ocp_world.specs.After.{is_accepted}
-pub use Rattle.ocp_world.specs.Mirror.Answering.{discard_of, IsDiscard, IsUndue, IsRefusal}
+pub use Rattle.ocp_world.specs.Mirror.Answering.{discard_of, IsDiscard, IsUndue}
 pub use Rattle.ocp_world.specs.Mirror.Answering.{IsDebugFault, IsPutAt}
 pub use Rattle.ocp_world.specs.Mirror.State.{IsWorld, DoesIn, Does, with_packets}
 pub use Rattle.ocp_world.specs.Replay.{replay_from, answers}

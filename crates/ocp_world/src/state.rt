@@ -1,7 +1,7 @@
 //! What the engine keeps of its world.
 
 ghost use Rattle.std.specs.Prelude.{◌≡◌, ◌≤◌, ◌<◌, ℕ, List, true, false, None, Ok, Err, IfOk, IfSome, length};
-ghost use Rattle.ocp_world.specs.Clauses.{Commanded, Debug, Does, DoesIn, HasFewArguments, IsDebugFault, IsPutAt, IsRefusal, IsWorld, Kept, Put, Request as Asked, Sends, Step, Stepped, Unasked, World, after, command_effect, directive_effect, directive_of, effect_of, fault_on, get, has_no_place, opening, option_to_list, reports_of, step_ended, telecommand_of, with_packets};
+ghost use Rattle.ocp_world.specs.Clauses.{Commanded, Debug, Does, DoesIn, HasFewArguments, IsDebugFault, IsPutAt, IsWorld, Kept, Put, Request as Asked, Sends, Step, Stepped, Unasked, World, after, command_effect, directive_effect, directive_of, effect_of, fault_on, get, has_no_place, opening, option_to_list, reports_of, step_ended, telecommand_of, with_packets};
 ghost use Rattle.ocp_table.specs.RequestTable as directive;
 ghost use Rattle.ocp_world.specs.declared.answers.EngineFault.TheVariants as engine;
 
@@ -13,7 +13,7 @@ use ocp_pool::{MAX_POOL_WORDS, Pool};
 use ocp_profile::Profile;
 use ocp_reports::{Origin, PacketBuffer, Sender, count_after};
 use ocp_table::laws::an_unload_takes_a_load_back;
-use ocp_table::{Change, Decision, Directive, InstructionAnswer, Place, StepOutcome, Table};
+use ocp_table::{Change, Decision, Directive, InstructionAnswer, Table};
 use pus_fields::{Tc, TcFault};
 use space_packet::{Apid, SequenceCount};
 use std::alloc::{AllocError, Allocator};
@@ -29,14 +29,6 @@ pub struct State<A: Allocator> {
 }
 
 impl<A: Allocator> State<A> {
-    /// Why an instruction event of a procedure is refused, by its place, if it is.
-    pub fn refusal(&self, id: u16, place: Place) -> Option<StepOutcome>
-        ensures { (w : World) (by : ℕ) → IsWorld w self.now →
-            IsRefusal (after w (Step by id)).answer result }
-    {
-        self.table.refusal(id, place)
-    }
-
     /// Does one instruction of a procedure.
     pub fn instruction(&mut self, id: u16) -> InstructionAnswer
         ensures world { (w : World) (by : ℕ) → IsWorld w self.old →

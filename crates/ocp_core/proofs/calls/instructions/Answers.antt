@@ -1,9 +1,10 @@
-use Rattle.std.proofs.Common.{ℕ, refl, sym, ap, ◌∙◌, arith}
+use Rattle.std.proofs.Common.{ℕ, Some, None, refl, sym, ap, ◌∙◌, arith}
 use Rattle.ocp_table.specs.declared.answers.StepOutcome.TheVariants.{Ran}
 use Rattle.ocp_table.specs.Slices.{slice_of}
 use Rattle.ocp_world.specs.World.{World}
 use Rattle.ocp_world.specs.After.{Stepped}
 use Rattle.ocp_world.specs.Round.{most_events}
+use Rattle.ocp_world.proofs.Refusals.{refused_so}
 use Rattle.ocp_core.specs.Log.{world_of}
 use Rattle.ocp_core.specs.Marks.{last_outcome}
 use Rattle.ocp_core.proofs.Marking.{slice_mark}
@@ -16,24 +17,24 @@ use Rattle.ocp_core.proofs.calls.instructions.Goals as goal
 pub returns-in-Some-clause-slice : goal.returns-in-Some-clause-slice
 returns-in-Some-clause-slice g c =
     let w : World = world_of (g.S.Store.log c.args.store.now) in
-    let why = c.in-Some.ensures w c.args.by c.requires.stands in
+    let why = refused_so _ c.args.by c.args.id w c.requires.stands.records (Some c.in-Some.last) c.in-Some.ensures.effect in
     refused_slice_at _ w c.args.by c.args.id (most_events c.args.extent w c.args.by c.args.id c.args.budget) _ why.0 why.1
 
 pub returns-in-Some-clause-store : goal.returns-in-Some-clause-store
 returns-in-Some-clause-store g c =
     let w : World = world_of (g.S.Store.log c.args.store.now) in
-    let why = c.in-Some.ensures w c.args.by c.requires.stands in
+    let why = refused_so _ c.args.by c.args.id w c.requires.stands.records (Some c.in-Some.last) c.in-Some.ensures.effect in
     refused_slice_store g.S.Store.log g.S.Store.is_full g.S.Store.with_entry c.args.store.now c.args.by c.args.id (most_events c.args.extent w c.args.by c.args.id c.args.budget) why.0
 
 pub returns-then-is_full-clause-slice : goal.returns-then-is_full-clause-slice
 returns-then-is_full-clause-slice g c =
     let w : World = world_of (g.S.Store.log c.args.store.now) in
-    full_slice_at _ w c.args.by c.args.id (most_events c.args.extent w c.args.by c.args.id c.args.budget) (c.in_default.ensures w c.args.by c.requires.stands) (sym c.is_full.ensures ∙ c.if-is_full.true)
+    full_slice_at _ w c.args.by c.args.id (most_events c.args.extent w c.args.by c.args.id c.args.budget) (refused_so _ c.args.by c.args.id w c.requires.stands.records None c.in_default.ensures.effect) (sym c.is_full.ensures ∙ c.if-is_full.true)
 
 pub returns-then-is_full-clause-store : goal.returns-then-is_full-clause-store
 returns-then-is_full-clause-store g c =
     let w : World = world_of (g.S.Store.log c.args.store.now) in
-    full_slice_store g.S.Store.log g.S.Store.is_full g.S.Store.with_entry c.args.store.now c.args.by c.args.id (most_events c.args.extent w c.args.by c.args.id c.args.budget) (c.in_default.ensures w c.args.by c.requires.stands) (sym c.is_full.ensures ∙ c.if-is_full.true)
+    full_slice_store g.S.Store.log g.S.Store.is_full g.S.Store.with_entry c.args.store.now c.args.by c.args.id (most_events c.args.extent w c.args.by c.args.id c.args.budget) (refused_so _ c.args.by c.args.id w c.requires.stands.records None c.in_default.ensures.effect) (sym c.is_full.ensures ∙ c.if-is_full.true)
 
 pub push_steps-requires-clause-some : goal.push_steps-requires-clause-some
 push_steps-requires-clause-some g c =
@@ -45,7 +46,7 @@ pub push_steps-requires-clause-may : goal.push_steps-requires-clause-may
 push_steps-requires-clause-may g c =
     let w : World = world_of (g.S.Store.log c.args.store.now) in
     let most : ℕ = most_events c.args.extent w c.args.by c.args.id c.args.budget in
-    let taken = c.in_default.ensures w c.args.by c.requires.stands in
+    let taken = refused_so _ c.args.by c.args.id w c.requires.stands.records None c.in_default.ensures.effect in
     let count = c.instructions-round.ensures.count w c.args.by c.requires.stands in
     let last = c.instructions-round.ensures.last w c.args.by c.requires.stands in
     record {
@@ -57,12 +58,12 @@ push_steps-requires-clause-may g c =
 pub returns-clause-slice : goal.returns-clause-slice
 returns-clause-slice g c =
     let w : World = world_of (g.S.Store.log c.args.store.now) in
-    done_slice_at _ w c.args.by c.args.id (most_events c.args.extent w c.args.by c.args.id c.args.budget) (slice_of c.instructions-round.result) (c.in_default.ensures w c.args.by c.requires.stands) (sym c.is_full.ensures ∙ c.if-is_full.false) (c.instructions-round.ensures.count w c.args.by c.requires.stands) (c.instructions-round.ensures.last w c.args.by c.requires.stands)
+    done_slice_at _ w c.args.by c.args.id (most_events c.args.extent w c.args.by c.args.id c.args.budget) (slice_of c.instructions-round.result) (refused_so _ c.args.by c.args.id w c.requires.stands.records None c.in_default.ensures.effect) (sym c.is_full.ensures ∙ c.if-is_full.false) (c.instructions-round.ensures.count w c.args.by c.requires.stands) (c.instructions-round.ensures.last w c.args.by c.requires.stands)
 
 pub returns-clause-store : goal.returns-clause-store
 returns-clause-store g c =
     let w : World = world_of (g.S.Store.log c.args.store.now) in
-    done_slice_store g.S.Store.log g.S.Store.is_full g.S.Store.with_entry c.args.store.now c.args.by c.args.id (most_events c.args.extent w c.args.by c.args.id c.args.budget) _ c.instructions-round.result.count (c.in_default.ensures w c.args.by c.requires.stands) (sym c.is_full.ensures ∙ c.if-is_full.false) (c.instructions-round.ensures.count w c.args.by c.requires.stands) c.push_steps.ensures
+    done_slice_store g.S.Store.log g.S.Store.is_full g.S.Store.with_entry c.args.store.now c.args.by c.args.id (most_events c.args.extent w c.args.by c.args.id c.args.budget) _ c.instructions-round.result.count (refused_so _ c.args.by c.args.id w c.requires.stands.records None c.in_default.ensures.effect) (sym c.is_full.ensures ∙ c.if-is_full.false) (c.instructions-round.ensures.count w c.args.by c.requires.stands) c.push_steps.ensures
 
 pub returns-clause-world : goal.returns-clause-world
 returns-clause-world g c = IsWorld-pushed g.S.Store.log g.S.Store.with_entry g.met.S.Store.logs_entry c.args.store.now _ _ _ c.push_steps.ensures (c.instructions-round.ensures.world _ c.args.by c.requires.stands)
