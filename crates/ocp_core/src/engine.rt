@@ -8,12 +8,12 @@ ghost use Rattle.ocp_core.specs.Mirror.Codes.{log_code};
 ghost use Rattle.ocp_world.specs.Mirror.State.{IsWorld};
 
 use crate::{
-    EngineFault, Entry, Input, Journal, PutFault, Reports, Round, Slice, StepOutcome, calls,
+    EngineFault, Entry, Heap, Input, Journal, PutFault, Reports, Round, Slice, StepOutcome, calls,
 };
 use ocp_profile::Profile;
 use ocp_reports::PacketBuffer;
 use ocp_table::View;
-use ocp_world::{Extent, Heap, State};
+use ocp_world::{Extent, State};
 use space_packet::Apid;
 use std::alloc::{AllocError, Allocator, Global};
 use std::marker::Model;

@@ -5,8 +5,9 @@ ghost use Rattle.ocp_world.specs.World as world;
 ghost use Rattle.ocp_world.specs.After as after;
 ghost use Rattle.ocp_core.specs.Clauses.{Enters, entries_in, event_entries, full_answer};
 
-use crate::{Command, DebugFault, Engine, EngineFault, Entry, PutFault, Reports, StepOutcome};
-use ocp_world::Heap;
+use crate::{
+    Command, DebugFault, Engine, EngineFault, Entry, Heap, PutFault, Reports, StepOutcome,
+};
 use std::alloc::{Allocator, Global};
 
 /// What may be asked of an engine: one event, of any seat.

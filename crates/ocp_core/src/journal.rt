@@ -5,10 +5,9 @@ ghost use Rattle.ocp_core.specs.Clauses.{Log, MAX_APID, MAX_CAPACITY, MAX_POOL_W
 ghost use Rattle.ocp_core.specs.Mirror.Codes.{log_code};
 ghost use Rattle.ocp_core.specs.Mirror.Kept.{log_of, IsKept};
 
-use crate::{Command, Entry, Note, Octets, Reports, RequestStore, StepOutcome, Store};
+use crate::{Command, Entry, Heap, Note, Octets, Reports, RequestStore, StepOutcome, Store};
 use ocp_profile::Profile;
 use ocp_reports::SharedReports;
-use ocp_world::Heap;
 use space_packet::Apid;
 use std::alloc::{AllocError, Allocator, Global};
 use std::marker::Model;
@@ -195,7 +194,7 @@ impl<A: Allocator + Copy> RequestStore for Journal<A> {
         × (entry_with_mark receipt.1 ≡ record { entry = entry; mark = Requested (Ok reports) }) };
 
     fn keep_octets(heap: &mut Heap<A>, octets: &[u8]) -> Result<Self::KeptOctets, AllocError> {
-        let copy = Octets::copy_of(heap.alloc(), octets);
+        let copy = Octets::copy_of(heap.alloc, octets);
         let kept = heap.note(copy)?;
         let own = heap.note(kept.share())?;
         Ok((kept, own))

@@ -4,7 +4,6 @@
 
 mod answers;
 mod drain;
-mod heap;
 mod keeping;
 pub mod laws;
 mod settle;
@@ -13,7 +12,6 @@ mod state;
 mod turns;
 
 pub use answers::{EngineFault, PutFault, discard_of};
-pub use heap::Heap;
 pub use keeping::{Keeps, Nothing};
 pub use ocp_debug::{Command, DebugFault};
 pub use ocp_table::{Extent, Round, Slice, StepOutcome};

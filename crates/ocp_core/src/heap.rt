@@ -2,8 +2,8 @@
 
 ghost use Rattle.std.specs.Prelude.{◌≡◌, Bool, true, false, OnOk, OnErr};
 
-use crate::Keeps;
 use ocp_reports::{PacketList, SharedReports};
+use ocp_world::Keeps;
 use std::alloc::{AllocError, Allocator};
 use std::marker::Model;
 
@@ -11,7 +11,7 @@ use std::marker::Model;
 /// some of their memory since this was made.
 #[derive(Drop)]
 pub struct Heap<A: Allocator> {
-    alloc: A,
+    pub(crate) alloc: A,
     refused: bool,
 }
 
@@ -30,14 +30,6 @@ impl<A: Allocator> Heap<A> {
             alloc,
             refused: false,
         }
-    }
-
-    /// The allocator, for memory whose refusal is not noted here.
-    pub fn alloc(&self) -> A
-    where
-        A: Copy,
-    {
-        self.alloc
     }
 
     /// Returns what was made, and notes if its memory was refused.
