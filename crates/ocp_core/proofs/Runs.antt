@@ -1,6 +1,6 @@
 -- The events of a run: what each leaves, and one more event.
-use Rattle.std.proofs.Common.{◌≡◌, ◌≢◌, ℕ, zero, suc, ◌+◌, ◌<◌, Bool, true, false, cond, List, [], ◌∷◌, ◌++◌, Some, map, take, length, get_or, refl, sym, ap, subst, ◌∙◌}
-use Rattle.std.specs.Prelude.{Result, Ok, Err, OnOk, OnErr, slice_get}
+use Rattle.std.proofs.Common.{◌≡◌, ◌≢◌, ℕ, zero, suc, ◌+◌, ◌<◌, Bool, true, false, cond, List, [], ◌∷◌, ◌++◌, Option, Some, None, map, take, length, get_or, refl, sym, ap, subst, ◌∙◌}
+use Rattle.std.specs.Prelude.{Result, Ok, Err, slice_get}
 use Rattle.std.specs.Option.{option_map}
 use Rattle.std.proofs.lemmas.List.{take_more, map-append}
 use Rattle.std.proofs.lemmas.Option.{slice_get-get_or, slice_get-map}
@@ -10,6 +10,7 @@ use Rattle.ocp_world.specs.declared.answers.EngineFault.{EngineFault}
 use Rattle.ocp_world.specs.declared.answers.EngineFault.TheVariants as engine
 use Rattle.ocp_debug.specs.declared.command.DebugFault.{DebugFault}
 use Rattle.ocp_debug.specs.declared.command.DebugFault.TheVariants as debug
+use Rattle.ocp_world.specs.declared.answers.PutFault.{PutFault}
 use Rattle.ocp_world.specs.declared.answers.PutFault.TheVariants as put
 use Rattle.ocp_world.specs.World.{World, Event, Request, Step, Debug, Drain, Put}
 use Rattle.ocp_world.specs.After.{Answer, Requested, Stepped, Commanded, Written, after, is_accepted}
@@ -17,8 +18,8 @@ use Rattle.ocp_world.specs.Replay.{answers, replay_from}
 use Rattle.ocp_core.specs.Log.{Log, world_of, is_full, with_entry, entry_for, full_answer, answer_in, log_after}
 use Rattle.ocp_core.specs.declared.answers.RunRefusal.{RunRefusal}
 use Rattle.ocp_core.specs.declared.answers.RunRefusal.TheVariants as run
-use Rattle.ocp_world.specs.Answers.{Answers}
-use Rattle.ocp_core.specs.Running.{log_after_all, finds_full, HasRoom, TakesMemory, IsRefusedBy, IsDone, Applies, reply_of, StopsAt}
+use Rattle.ocp_core.specs.Receipts.{Enters}
+use Rattle.ocp_core.specs.Running.{log_after_all, finds_full, HasRoom, TakesMemory, IsRefusedBy, IsDone, refusal_of, StopsAt}
 use Rattle.ocp_core.proofs.Replays.{world_of-with_entry, replay_from-append, answers-append}
 use Rattle.ocp_core.proofs.Storing.{refused_store}
 
@@ -27,50 +28,13 @@ true_false e = cc
 
 -- ---- an event that is not refused because the journal is full
 
+abbrev pub full_by : Option RunRefusal → Bool
+full_by (Some run.JournalFull) = true
+full_by (Some run.Memory) = false
+full_by None = false
+
 abbrev pub is_full_answer : Answer → Bool
-is_full_answer (Requested (Ok reports)) = false
-is_full_answer (Requested (Err engine.JournalFull)) = true
-is_full_answer (Requested (Err (engine.Discarded cause))) = false
-is_full_answer (Requested (Err engine.Memory)) = false
-is_full_answer (Requested (Err engine.NothingDue)) = false
-is_full_answer (Stepped S.JournalFull) = true
-is_full_answer (Stepped S.Broke) = false
-is_full_answer (Stepped S.Ran) = false
-is_full_answer (Stepped S.Called) = false
-is_full_answer (Stepped S.Ended) = false
-is_full_answer (Stepped (S.Faulted number)) = false
-is_full_answer (Stepped S.NotLoaded) = false
-is_full_answer (Stepped S.NotRunning) = false
-is_full_answer (Commanded (Ok done)) = false
-is_full_answer (Commanded (Err debug.JournalFull)) = true
-is_full_answer (Commanded (Err debug.NotLoaded)) = false
-is_full_answer (Commanded (Err debug.NotAnInstruction)) = false
-is_full_answer (Commanded (Err debug.AlreadySet)) = false
-is_full_answer (Commanded (Err debug.BreaksFull)) = false
-is_full_answer (Commanded (Err debug.NotSet)) = false
-is_full_answer (Commanded (Err debug.OutsideMemory)) = false
-is_full_answer (Written (Ok done)) = false
-is_full_answer (Written (Err put.BadPoolIndex)) = false
-is_full_answer (Written (Err put.JournalFull)) = true
-
-pub not_full : (o : StepOutcome) → (o ≡ S.JournalFull → ⊥) → is_full_answer (Stepped o) ≡ false
-not_full S.Broke h = refl
-not_full S.Ran h = refl
-not_full S.Called h = refl
-not_full S.Ended h = refl
-not_full (S.Faulted number) h = refl
-not_full S.NotLoaded h = refl
-not_full S.NotRunning h = refl
-not_full S.JournalFull h = absurd (h refl)
-
-pub not_full_fault : (fault : DebugFault) → (fault ≡ debug.JournalFull → ⊥) → is_full_answer (Commanded (Err fault)) ≡ false
-not_full_fault debug.NotLoaded h = refl
-not_full_fault debug.NotAnInstruction h = refl
-not_full_fault debug.AlreadySet h = refl
-not_full_fault debug.BreaksFull h = refl
-not_full_fault debug.NotSet h = refl
-not_full_fault debug.OutsideMemory h = refl
-not_full_fault debug.JournalFull h = absurd (h refl)
+is_full_answer a = full_by (refusal_of a)
 
 -- the answer of a full journal
 full_told : (e : Event) → (is_full_answer (full_answer e) ≡ true) × (is_accepted (full_answer e) ≡ false)
@@ -106,15 +70,15 @@ module _ (log : Log) (e : Event) where
       ] is
 
   -- one that is answered with a full journal would be accepted, since no world gives this answer
-  pub full_event : full_answer e ≢ answer → full_answer e ≡ answer_in log e → finds_full log e ≡ true
-  full_event never is =
-      elim (is_accepted answer) as (λ b. is_accepted answer ≡ b → full_answer e ≡ cond b (cond (is_full log) (full_answer e) answer) answer → cond b (is_full log) false ≡ true) [
-        | true ↦ λ taken. elim (is_full log) as (λ f. full_answer e ≡ cond f (full_answer e) answer → f ≡ true) [
+  pub full_event : (x : Answer) → (is_full_answer answer ≡ true → ⊥) → is_full_answer x ≡ true → x ≡ answer_in log e → finds_full log e ≡ true
+  full_event x never full is =
+      elim (is_accepted answer) as (λ b. x ≡ cond b (cond (is_full log) (full_answer e) answer) answer → cond b (is_full log) false ≡ true) [
+        | true ↦ elim (is_full log) as (λ f. x ≡ cond f (full_answer e) answer → f ≡ true) [
           | true ↦ λ a. refl
-          | false ↦ λ a. absurd (true_false (sym taken ∙ ap is_accepted (sym a) ∙ (full_told e).1))
+          | false ↦ λ a. absurd (never (ap is_full_answer (sym a) ∙ full))
         ]
-        | false ↦ λ taken a. absurd (never a)
-      ] refl is
+        | false ↦ λ a. absurd (never (ap is_full_answer (sym a) ∙ full))
+      ] is
 
   -- and leaves the journal
   pub full_leaves : finds_full log e ≡ true → log_after log e ≡ log
@@ -141,6 +105,28 @@ module _ (log : Log) (e : Event) where
 world_done : ((w : World) (e : Event) → is_accepted (after w e).answer ≡ false → (after w e).world ≡ w) → (log : Log) (e : Event) (new : Log) → new ≡ log_after log e → finds_full log e ≡ false → world_of new ≡ (after (world_of log) e).world
 world_done keeps log e new is free = ap world_of is ∙ world_left log e (keeps (world_of log) e) free
 
+-- ---- which answers are refusals
+
+no_memory_stepped : (o : StepOutcome) → refusal_of (Stepped o) ≡ Some run.Memory → ⊥
+no_memory_stepped S.JournalFull is = cc
+no_memory_stepped other is = cc
+
+no_memory_commanded : (r : Result (Unit {0}) DebugFault) → refusal_of (Commanded r) ≡ Some run.Memory → ⊥
+no_memory_commanded (Err debug.JournalFull) is = cc
+no_memory_commanded other is = cc
+
+no_memory_written : (r : Result (Unit {0}) PutFault) → refusal_of (Written r) ≡ Some run.Memory → ⊥
+no_memory_written (Err put.JournalFull) is = cc
+no_memory_written other is = cc
+
+-- no world answers that the journal is full
+pub never_full : (a : Answer) → a ≢ Requested (Err engine.JournalFull) → a ≢ Stepped S.JournalFull → a ≢ Commanded (Err debug.JournalFull) → a ≢ Written (Err put.JournalFull) → is_full_answer a ≡ true → ⊥
+never_full (Requested (Err engine.JournalFull)) request step command word is = request refl
+never_full (Stepped S.JournalFull) request step command word is = step refl
+never_full (Commanded (Err debug.JournalFull)) request step command word is = command refl
+never_full (Written (Err put.JournalFull)) request step command word is = word refl
+never_full other request step command word is = cc
+
 -- ---- an event of a run
 
 module _ (keeps : (w : World) (e : Event) → is_accepted (after w e).answer ≡ false → (after w e).world ≡ w) (log new : Log) (e : Event) where
@@ -155,12 +141,38 @@ module _ (keeps : (w : World) (e : Event) → is_accepted (after w e).answer ≡
       let done = done_event log e (Requested (Err fault)) told roomy in
       done_so (Requested (Err fault)) told roomy (same ∙ refused_store (λ l. l) (λ l x. is_full l) with_entry log e (sym (ap is_accepted done.0)))
 
-  pub replied_so : (A : Type 0) → full_answer e ≢ (after (world_of log) e).answer → full_answer e ≡ Requested (Err engine.JournalFull) → (is_accepted (answer_in log e) ≡ true → TakesMemory log e) → (r : Result (List (List ℕ)) EngineFault) → Answers r (answer_in log e) → OnOk r (new ≡ log_after log e) → OnErr r (new ≡ log) → Applies {A = A} log new e (reply_of r)
-  replied_so A never full takes (Ok reports) told ok err = done_so (Requested (Ok reports)) (sym told) refl ok
-  replied_so A never full takes (Err engine.JournalFull) told ok err = (full_event log e never (full ∙ sym told), err)
-  replied_so A never full takes (Err engine.Memory) told ok err = (takes told, err)
-  replied_so A never full takes (Err (engine.Discarded cause)) told ok err = refused_done (engine.Discarded cause) refl (sym told) err
-  replied_so A never full takes (Err engine.NothingDue) told ok err = refused_done engine.NothingDue refl (sym told) err
+  -- one that is not refused is done
+  pub accepted_so : (a : Answer) → refusal_of a ≡ None → Enters log new e a → IsDone log new e a
+  accepted_so (Requested (Ok reports)) is enters = done_so (Requested (Ok reports)) (sym enters.0) refl enters.1
+  accepted_so (Requested (Err engine.JournalFull)) is enters = absurd (cc)
+  accepted_so (Requested (Err engine.Memory)) is enters = absurd (cc)
+  accepted_so (Requested (Err (engine.Discarded cause))) is enters = refused_done (engine.Discarded cause) refl (sym enters.0) enters.2
+  accepted_so (Requested (Err engine.NothingDue)) is enters = refused_done engine.NothingDue refl (sym enters.0) enters.2
+  accepted_so (Stepped outcome) is enters = done_so (Stepped outcome) enters.0 (ap full_by is) enters.1
+  accepted_so (Commanded result) is enters = done_so (Commanded result) enters.0 (ap full_by is) enters.1
+  accepted_so (Written result) is enters = done_so (Written result) enters.0 (ap full_by is) enters.1
+
+  -- one that is refused finds the journal full or no memory, and changes nothing
+  module _ (never : is_full_answer (after (world_of log) e).answer ≡ true → ⊥) where
+    found_full : (a : Answer) → refusal_of a ≡ Some run.JournalFull → a ≡ answer_in log e → new ≡ log_after log e → (finds_full log e ≡ true) × (new ≡ log)
+    found_full a is told left =
+        let full = full_event log e a never (ap full_by is) told in
+        (full, left ∙ full_leaves log e full)
+
+    pub refused_so : (a : Answer) → (a ≡ Requested (Err engine.Memory) → TakesMemory log e) → (r : RunRefusal) → refusal_of a ≡ Some r → Enters log new e a → IsRefusedBy log e r × (new ≡ log)
+    refused_so (Requested (Ok reports)) memory r is enters = absurd (cc)
+    refused_so (Requested (Err engine.JournalFull)) memory run.JournalFull is enters = (full_event log e (Requested (Err engine.JournalFull)) never refl (sym enters.0), enters.2)
+    refused_so (Requested (Err engine.JournalFull)) memory run.Memory is enters = absurd (cc)
+    refused_so (Requested (Err engine.Memory)) memory run.JournalFull is enters = absurd (cc)
+    refused_so (Requested (Err engine.Memory)) memory run.Memory is enters = (memory refl, enters.2)
+    refused_so (Requested (Err (engine.Discarded cause))) memory r is enters = absurd (cc)
+    refused_so (Requested (Err engine.NothingDue)) memory r is enters = absurd (cc)
+    refused_so (Stepped outcome) memory run.JournalFull is enters = found_full (Stepped outcome) is enters.0 enters.1
+    refused_so (Stepped outcome) memory run.Memory is enters = absurd (no_memory_stepped outcome is)
+    refused_so (Commanded result) memory run.JournalFull is enters = found_full (Commanded result) is enters.0 enters.1
+    refused_so (Commanded result) memory run.Memory is enters = absurd (no_memory_commanded result is)
+    refused_so (Written result) memory run.JournalFull is enters = found_full (Written result) is enters.0 enters.1
+    refused_so (Written result) memory run.Memory is enters = absurd (no_memory_written result is)
 
 -- ---- journals after events, one after another
 

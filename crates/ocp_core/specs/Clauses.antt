@@ -28,7 +28,8 @@ pub use Rattle.ocp_core.specs.Journal.{note_entry}
 pub use Rattle.ocp_core.specs.Receipts.{Enters, Grows, reports_in, entries_in, event_entries}
 pub use Rattle.ocp_core.specs.Receipts.{marked_drain, marked_request}
 pub use Rattle.ocp_core.specs.Receipts.{count_entries, slice_entries, commit_entries}
-pub use Rattle.ocp_core.specs.Running.{Applies, HasRoom, StopsAt, log_after_all, reply_of}
+pub use Rattle.ocp_core.specs.Running.{Applies, HasRoom, StopsAt, log_after_all, refusal_of}
+pub use Rattle.ocp_core.specs.Running.{TakesMemory}
 pub use Rattle.ocp_core.specs.Alone.{alone_after}
 pub use Rattle.ocp_core.specs.Tickets.{TicketContents, WorkContents, IsRun, ticket_at}
 pub use Rattle.ocp_core.specs.Commits.{Commits, work_after}

@@ -1,11 +1,12 @@
 -- What an event of a run does, and where a run ends.
 use Rattle.std.specs.Prelude.{◌≡◌, ℕ, zero, Bool, true, false, if◌then◌else◌, List, [], ◌∷◌, Option, Some, None, Result, Ok, Err}
 use Rattle.ocp_world.specs.World.{Event, Request, Step, Debug, Drain, Put}
-use Rattle.ocp_world.specs.After.{Answer, after, is_accepted}
-use Rattle.ocp_world.specs.declared.answers.EngineFault.{EngineFault}
+use Rattle.ocp_table.specs.declared.answers.StepOutcome.TheVariants as S
+use Rattle.ocp_debug.specs.declared.command.DebugFault.TheVariants as debug
+use Rattle.ocp_world.specs.After.{Answer, Requested, Stepped, Commanded, Written, after, is_accepted}
 use Rattle.ocp_world.specs.declared.answers.EngineFault.TheVariants as engine
+use Rattle.ocp_world.specs.declared.answers.PutFault.TheVariants as put
 use Rattle.ocp_core.specs.declared.answers.Answer as G
-use Rattle.ocp_core.specs.declared.answers.Answer.TheVariants as answer
 use Rattle.ocp_core.specs.declared.answers.RunRefusal.{RunRefusal}
 use Rattle.ocp_core.specs.declared.answers.RunRefusal.TheVariants.{JournalFull, Memory}
 use Rattle.ocp_core.specs.Log.{Log, world_of, is_full, answer_in, log_after}
@@ -48,14 +49,15 @@ pub record IsDone (old new : Log) (e : Event) (given : Answer) : Type 0 where
   pub journal : new ≡ log_after old e
   pub room : finds_full old e ≡ false
 
--- the answer to a request or to a drain: a run ends before one that finds the journal full or no
+-- why a run ends before an event with this answer, if it does: the journal is full, or there is no
 -- memory
-abbrev pub reply_of : {A : Type 0} → Result (List (List ℕ)) EngineFault
-    → Result (G.Answer A) RunRefusal
-reply_of (Ok reports) = Ok (answer.Requested (Ok reports))
-reply_of (Err engine.JournalFull) = Err JournalFull
-reply_of (Err engine.Memory) = Err Memory
-reply_of (Err fault) = Ok (answer.Requested (Err fault))
+abbrev pub refusal_of : Answer → Option RunRefusal
+refusal_of (Requested (Err engine.JournalFull)) = Some JournalFull
+refusal_of (Requested (Err engine.Memory)) = Some Memory
+refusal_of (Stepped S.JournalFull) = Some JournalFull
+refusal_of (Commanded (Err debug.JournalFull)) = Some JournalFull
+refusal_of (Written (Err put.JournalFull)) = Some JournalFull
+refusal_of answer = None
 
 -- the event is done; or it is refused and nothing is changed
 abbrev pub Applies : {A : Type 0} → Log → Log → Event → Result (G.Answer A) RunRefusal → Type 0

@@ -1,75 +1,61 @@
 //! Lists of events.
 
-ghost use Rattle.std.specs.Prelude.{◌≡◌, IfOk, IfErr, OnOk, map, take, slice_get};
-ghost use Rattle.ocp_core.specs.Clauses.{Applies, Debug, HasRoom, Put, StopsAt, answer_of, answers, event_of, log_after_all, replay_from, reply_of, world_of};
+ghost use Rattle.std.specs.Prelude.{◌≡◌, Err, IfOk, IfErr, OnOk, map, take, slice_get};
+ghost use Rattle.ocp_world.specs.declared.answers.EngineFault.TheVariants.{Memory};
+ghost use Rattle.ocp_core.specs.Clauses.{Applies, Enters, HasRoom, Requested, StopsAt, TakesMemory, answer_of, answers, event_of, log_after_all, refusal_of, replay_from, world_of};
 
 use crate::laws::{refused_events_change_nothing, worlds_have_no_full_journal};
 use crate::{
-    Answer, Command, DebugFault, Engine, EngineFault, Event, PutFault, Reports, RunFault,
-    RunRefusal, StepOutcome,
+    Answer, DebugFault, Engine, EngineFault, Event, PutFault, RunFault, RunRefusal, StepOutcome,
 };
 use std::alloc::Allocator;
 
-// What a run answers to a request or to a drain, or why it ends before it.
-fn reply<A: Allocator>(given: Result<Reports<A>, EngineFault>) -> Result<Answer<A>, RunRefusal>
-    ensures { result ≡ reply_of given }
+// Why a run ends before an event with this answer, if it does.
+fn refusal_of<A: Allocator>(answer: &Answer<A>) -> Option<RunRefusal>
+    ensures { result ≡ refusal_of (answer_of answer.now) }
 {
-    match given {
-        Ok(reports) => Ok(Answer::Requested(Ok(reports))),
-        Err(EngineFault::JournalFull) => Err(RunRefusal::JournalFull),
-        Err(EngineFault::Memory) => Err(RunRefusal::Memory),
-        Err(fault) => Ok(Answer::Requested(Err(fault))),
+    match answer {
+        Answer::Requested(Err(EngineFault::Memory)) => Some(RunRefusal::Memory),
+        Answer::Requested(Err(EngineFault::JournalFull))
+        | Answer::Stepped(StepOutcome::JournalFull)
+        | Answer::Commanded(Err(DebugFault::JournalFull))
+        | Answer::Written(Err(PutFault::JournalFull)) => Some(RunRefusal::JournalFull),
+        _ => None,
     }
 }
 
 impl<A: Allocator + Copy> Engine<A> {
-    // Does an event.
+    // Does an event. Memory is answered only to a request and to a drain.
+    fn answer(&mut self, alloc: A, event: Event<'_>) -> Answer<A>
+        ensures enters { Enters self.old self.new (event_of event.entry) (answer_of result) }
+        ensures memory { answer_of result ≡ Requested (Err Memory) →
+            TakesMemory self.old (event_of event.entry) }
+    {
+        match event {
+            Event::Request { by, time, octets } => {
+                Answer::Requested(self.request(alloc, by, time, octets))
+            }
+            Event::Drain { by, time } => Answer::Requested(self.drain(alloc, by, time)),
+            Event::Step { by, id } => Answer::Stepped(self.step(by, id)),
+            Event::SetBreak { by, id, place } => Answer::Commanded(self.set_break(by, id, place)),
+            Event::ClearBreak { by, id, place } => {
+                Answer::Commanded(self.clear_break(by, id, place))
+            }
+            Event::Trace { by, id, on } => Answer::Commanded(self.trace(by, id, on)),
+            Event::PutWord { by, index, value } => Answer::Written(self.put_word(by, index, value)),
+        }
+    }
+
+    // Does an event, or refuses it: the journal is full, or there is no memory.
     fn run_event(&mut self, alloc: A, event: Event<'_>) -> Result<Answer<A>, RunRefusal>
         ensures { Applies self.old self.new (event_of event.entry) result }
     {
         refused_events_change_nothing();
         worlds_have_no_full_journal();
-        match event {
-            Event::Request { by, time, octets } => reply(self.request(alloc, by, time, octets)),
-            Event::Drain { by, time } => reply(self.drain(alloc, by, time)),
-            Event::Step { by, id } => match self.step(by, id) {
-                StepOutcome::JournalFull => Err(RunRefusal::JournalFull),
-                outcome => Ok(Answer::Stepped(outcome)),
-            },
-            Event::SetBreak { by, id, place } => {
-                self.apply_command(by, id, Command::SetBreak(place))
-            }
-            Event::ClearBreak { by, id, place } => {
-                self.apply_command(by, id, Command::ClearBreak(place))
-            }
-            Event::Trace { by, id, on } => self.apply_command(by, id, Command::SetTrace(on)),
-            Event::PutWord { by, index, value } => self.apply_put(by, index, value),
-        }
-    }
-
-    // Does a debugger's command as an event.
-    fn apply_command(&mut self, by: u16, id: u16, command: Command) -> Result<Answer<A>, RunRefusal>
-        ensures { Applies self.old self.new (Debug by id command) result }
-    {
-        refused_events_change_nothing();
-        worlds_have_no_full_journal();
-        match self.command(by, id, command) {
-            Ok(()) => Ok(Answer::Commanded(Ok(()))),
-            Err(DebugFault::JournalFull) => Err(RunRefusal::JournalFull),
-            Err(fault) => Ok(Answer::Commanded(Err(fault))),
-        }
-    }
-
-    // Writes a pool word as an event.
-    fn apply_put(&mut self, by: u16, index: u64, value: u64) -> Result<Answer<A>, RunRefusal>
-        ensures { Applies self.old self.new (Put by index value) result }
-    {
-        refused_events_change_nothing();
-        worlds_have_no_full_journal();
-        match self.put_word(by, index, value) {
-            Ok(()) => Ok(Answer::Written(Ok(()))),
-            Err(PutFault::JournalFull) => Err(RunRefusal::JournalFull),
-            Err(fault) => Ok(Answer::Written(Err(fault))),
+        let answer = self.answer(alloc, event);
+        match refusal_of(&answer) {
+            Some(refusal) => Err(refusal),
+            None => Ok(answer),
         }
     }
 
