@@ -112,15 +112,12 @@ impl<A: Allocator + Copy> Engine<A> {
         ensures err { OnErr result (self.new ≡ self.old) }
         ensures memory { result ≡ Err EngineFault.Memory → heap.new ≡ true }
     {
-        calls::request(
-            &mut self.journal,
-            &mut self.state,
-            heap,
-            by,
-            time,
-            octets,
-            &mut self.packets,
-        )
+        let Self {
+            journal,
+            state,
+            packets,
+        } = self;
+        calls::request(journal, state, heap, by, time, octets, packets)
     }
 
     /// Reports the completions that wait, for a seat: the oldest first, at a time in whole seconds,
@@ -147,14 +144,13 @@ impl<A: Allocator + Copy> Engine<A> {
         ensures receipt { IfOk result (λ r. entry_with_mark r.1 ≡ marked_drain by time r.0) }
         ensures err { OnErr result (self.new ≡ self.old) }
     {
-        calls::drain(
-            &mut self.journal,
-            &mut self.state,
-            &mut Heap::new(alloc),
-            by,
-            time,
-            &mut self.packets,
-        )
+        let Self {
+            journal,
+            state,
+            packets,
+        } = self;
+        let heap = &mut Heap::new(alloc);
+        calls::drain(journal, state, heap, by, time, packets)
     }
 }
 
@@ -191,14 +187,9 @@ impl<A: Allocator> Engine<A> {
         ensures journal { self.new ≡ slice_log self.old by id budget }
         ensures gain { Grows self.old self.new (slice_entries by id result) }
     {
-        let Round { count, last, .. } = calls::instructions(
-            &mut self.journal,
-            &mut self.state,
-            by,
-            id,
-            budget,
-            Extent::Slice,
-        );
+        let Self { journal, state, .. } = self;
+        let round = calls::instructions(journal, state, by, id, budget, Extent::Slice);
+        let Round { count, last, .. } = round;
         Slice { count, last }
     }
 
@@ -212,14 +203,8 @@ impl<A: Allocator> Engine<A> {
         ensures journal { self.new ≡ round_log self.old by id budget }
         ensures gain { Grows self.old self.new (slice_entries by id (slice_of result)) }
     {
-        calls::instructions(
-            &mut self.journal,
-            &mut self.state,
-            by,
-            id,
-            budget,
-            Extent::Round,
-        )
+        let Self { journal, state, .. } = self;
+        calls::instructions(journal, state, by, id, budget, Extent::Round)
     }
 
     /// Writes the pool word at an index from outside: nothing else changes, and no memory is taken.

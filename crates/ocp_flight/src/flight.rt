@@ -88,15 +88,8 @@ impl<A: Allocator> Flight<A> {
         ensures err { OnErr result (self.new ≡ self.old) }
         ensures memory { result ≡ Err EngineFault.Memory → ⊥ }
     {
-        calls::request(
-            &mut self.store,
-            &mut self.state,
-            &mut Nothing,
-            by,
-            time,
-            octets,
-            packets,
-        )
+        let Self { store, state } = self;
+        calls::request(store, state, &mut Nothing, by, time, octets, packets)
     }
 
     /// Does one instruction of a running procedure. Refused, in this order, if the procedure is not
@@ -118,14 +111,9 @@ impl<A: Allocator> Flight<A> {
         ensures slice { result ≡ slice_in self.old by id budget }
         ensures log { self.new ≡ slice_after self.old by id budget }
     {
-        let Round { count, last, .. } = calls::instructions(
-            &mut self.store,
-            &mut self.state,
-            by,
-            id,
-            budget,
-            Extent::Slice,
-        );
+        let Self { store, state } = self;
+        let round = calls::instructions(store, state, by, id, budget, Extent::Slice);
+        let Round { count, last, .. } = round;
         Slice { count, last }
     }
 
@@ -137,14 +125,8 @@ impl<A: Allocator> Flight<A> {
         ensures round { result ≡ round_in self.old by id budget }
         ensures log { self.new ≡ round_after self.old by id budget }
     {
-        calls::instructions(
-            &mut self.store,
-            &mut self.state,
-            by,
-            id,
-            budget,
-            Extent::Round,
-        )
+        let Self { store, state } = self;
+        calls::instructions(store, state, by, id, budget, Extent::Round)
     }
 
     /// Writes the pool word at an index from outside; nothing else changes. Refused, in this order,
@@ -213,14 +195,8 @@ impl<A: Allocator> Flight<A> {
         ensures err { OnErr result (self.new ≡ self.old) }
         ensures memory { result ≡ Err EngineFault.Memory → ⊥ }
     {
-        calls::drain(
-            &mut self.store,
-            &mut self.state,
-            &mut Nothing,
-            by,
-            time,
-            packets,
-        )
+        let Self { store, state } = self;
+        calls::drain(store, state, &mut Nothing, by, time, packets)
     }
 
     /// Drops the oldest `count` entries, which the caller has copied before. The state stays.
