@@ -1,5 +1,5 @@
 -- What a store keeps.
-use Rattle.std.specs.Prelude.{◌≡◌, ◌≤◌, ◌<◌, ◌+◌, ◌*◌, ◌^◌, ℕ, List, map, drop, length, false, Option, Some, None}
+use Rattle.std.specs.Prelude.{◌≡◌, ◌≤◌, ◌+◌, ◌*◌, ◌^◌, ℕ, List, map, drop, length, false, Option, Some, None}
 use Rattle.ocp_profile.specs.declared.limits.TheConstants.{MAX_APID, MAX_CAPACITY}
 use Rattle.ocp_core.specs.Log.{Entry, Drained, events_of, expand, world_of}
 use Rattle.ocp_core.specs.Mirror.Counted.{AreCounted}
