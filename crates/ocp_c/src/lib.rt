@@ -32,7 +32,7 @@ mod status;
 
 pub use handle::Handle;
 pub use laws::reports_are_few;
-use ocp_flight::StepOutcome;
+use ocp_flight::{Command, StepOutcome};
 pub use open_engine::OpenEngine;
 use opening::open;
 pub use outcome::Outcome;
@@ -212,7 +212,8 @@ pub extern "C" fn ocp_round(
 pub extern "C" fn ocp_set_break(alloc: Global, handle: &mut Handle, id: u16, place: u16) -> u32
     ensures does { Obeys handle.old.held id (command.SetBreak place) result handle.new.held }
 {
-    handle.answer(alloc, |engine| engine.set_break(SEAT, id, place).into())
+    let command = Command::SetBreak(place);
+    handle.answer(alloc, |engine| engine.command(SEAT, id, command).into())
 }
 
 /// Clears the breakpoint at a slot.
@@ -220,7 +221,8 @@ pub extern "C" fn ocp_set_break(alloc: Global, handle: &mut Handle, id: u16, pla
 pub extern "C" fn ocp_clear_break(alloc: Global, handle: &mut Handle, id: u16, place: u16) -> u32
     ensures does { Obeys handle.old.held id (command.ClearBreak place) result handle.new.held }
 {
-    handle.answer(alloc, |engine| engine.clear_break(SEAT, id, place).into())
+    let command = Command::ClearBreak(place);
+    handle.answer(alloc, |engine| engine.command(SEAT, id, command).into())
 }
 
 /// Sets whether each instruction of a procedure leaves a trace record.
@@ -228,7 +230,8 @@ pub extern "C" fn ocp_clear_break(alloc: Global, handle: &mut Handle, id: u16, p
 pub extern "C" fn ocp_trace(alloc: Global, handle: &mut Handle, id: u16, on: bool) -> u32
     ensures does { Obeys handle.old.held id (command.SetTrace on) result handle.new.held }
 {
-    handle.answer(alloc, |engine| engine.trace(SEAT, id, on).into())
+    let command = Command::SetTrace(on);
+    handle.answer(alloc, |engine| engine.command(SEAT, id, command).into())
 }
 
 /// The pool word at an index.

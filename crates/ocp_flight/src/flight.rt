@@ -1,7 +1,6 @@
 //! The engine for flight.
 
 ghost use Rattle.std.specs.Prelude.{◌≡◌, ◌↔◌, ◌≤◌, ◌<◌, ◌+◌, ◌^◌, ℕ, None, Err, IfOk, IfSome, OnOk, OnErr, length, slice_get, option_copied};
-ghost use Rattle.ocp_debug.specs.declared.command.Command.TheVariants as command;
 ghost use Rattle.ocp_world.specs.World as world;
 ghost use Rattle.ocp_world.specs.Mirror.State.{IsWorld};
 ghost use Rattle.ocp_flight.specs.Clauses.{Answers, Commanded, Debug, Flown, IsNextRunning, MAX_APID, MAX_CAPACITY, MAX_POOL_WORDS, Put, Reads, Runs, Step, Stepped, Written, answer_in, entry_answer, entry_written, expand, flown_after, get, held_count, last_traces, opened_flown, release_after, release_answer, room, round_after, round_in, slice_after, slice_in, view_at, with_packets, world_of};
@@ -140,44 +139,15 @@ impl<A: Allocator> Flight<A> {
         calls::put_word(&mut self.store, &mut self.state, by, index, value)
     }
 
-    // Does a debugger's command of a seat.
-    fn command(&mut self, by: u16, id: u16, command: Command) -> Result<(), DebugFault>
+    /// Does a debugger's command: sets a breakpoint at the slot of an instruction, clears the one
+    /// at a slot, or sets whether each instruction of a procedure leaves a trace record. Refused as
+    /// the command is by `Engine`, and after that if there is no room for the entry; then nothing
+    /// is changed.
+    pub fn command(&mut self, by: u16, id: u16, command: Command) -> Result<(), DebugFault>
         ensures answer { Commanded result ≡ answer_in self.old (Debug by id command) }
         ensures log { self.new ≡ flown_after self.old (Debug by id command) }
     {
         calls::command(&mut self.store, &mut self.state, by, id, command)
-    }
-
-    /// Sets a breakpoint at the slot of an instruction. Refused, in this order, if the procedure is
-    /// not loaded, if no instruction begins at the slot, if it has a breakpoint, if eight are set,
-    /// and if there is no room for the entry; then nothing is changed.
-    pub fn set_break(&mut self, by: u16, id: u16, place: u16) -> Result<(), DebugFault>
-        ensures answer { Commanded result ≡
-            answer_in self.old (Debug by id (command.SetBreak place)) }
-        ensures log { self.new ≡ flown_after self.old (Debug by id (command.SetBreak place)) }
-    {
-        self.command(by, id, Command::SetBreak(place))
-    }
-
-    /// Clears the breakpoint at a slot. Refused, in this order, if the procedure is not loaded, if
-    /// the slot has none, and if there is no room for the entry; then nothing is changed.
-    pub fn clear_break(&mut self, by: u16, id: u16, place: u16) -> Result<(), DebugFault>
-        ensures answer { Commanded result ≡
-            answer_in self.old (Debug by id (command.ClearBreak place)) }
-        ensures log { self.new ≡ flown_after self.old (Debug by id (command.ClearBreak place)) }
-    {
-        self.command(by, id, Command::ClearBreak(place))
-    }
-
-    /// Sets whether each instruction of a procedure leaves a trace record. Refused, in this order,
-    /// if the procedure is not loaded, and if there is no room for the entry; then nothing is
-    /// changed.
-    pub fn trace(&mut self, by: u16, id: u16, on: bool) -> Result<(), DebugFault>
-        ensures answer { Commanded result ≡
-            answer_in self.old (Debug by id (command.SetTrace on)) }
-        ensures log { self.new ≡ flown_after self.old (Debug by id (command.SetTrace on)) }
-    {
-        self.command(by, id, Command::SetTrace(on))
     }
 
     /// Writes the reports of the completions that wait, the oldest first, at a time in whole
