@@ -13,3 +13,4 @@ mod tokens;
 
 pub use line::{LineFault, Statement, TextLine};
 pub use reading::read_line;
+pub use token::{Scan, next_token};
