@@ -38,7 +38,7 @@ pub fn length_before(end: u8, text: &[u8]) -> usize
 }
 
 /// The first word, and what follows it.
-pub(crate) fn next_word(text: &[u8]) -> Option<(&[u8], &[u8])>
+pub fn next_word(text: &[u8]) -> Option<(&[u8], &[u8])>
     ensures { MatchOption result (words_of text.now ≡ [])
         (λ found. words_of text.now ≡ found.0.now ∷ words_of found.1.now) }
 {
