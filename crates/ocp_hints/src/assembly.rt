@@ -1,12 +1,12 @@
 //! Hints on lines of assembly text.
 
-ghost use Rattle.std.specs.Prelude.{◌≤◌, IfSome};
+ghost use Rattle.std.specs.Prelude.{IfSome};
 ghost use Rattle.ocp_hints.specs.Columns.{IsWithin};
 
 use crate::hint::{Hint, Mark, Shown, front_of_word, mark_at};
 use crate::image::{TOO_LONG, sentence_on_load};
-use crate::line::{Line, MARKS, Reader, Word, line_at};
-use crate::tables::{Table, sides, text_on_front, text_on_word};
+use crate::line::{self, Line, MARKS, line_at};
+use crate::tables::{Table, text_on_front, text_on_word};
 use bpf_assembler::{AsmFault, Why, assemble};
 use bpf_canonical::read_mnemonic;
 use bpf_text::LineFault;
@@ -56,21 +56,6 @@ const NO_LABEL: &[u8] = b"a label is a letter or _, then letters, digits and _, 
 const LABEL: &[u8] = b"this label is out of its range, -32768 to +32767 slots from the next \
                        instruction";
 
-/// A form, an example of it, and the number of words of a line that fit it.
-type Fit = (&'static [u8], &'static [u8], usize);
-
-/// The number of words of a label and its colon, if the line has one.
-fn label_words(line: &Line<'_>) -> usize
-    ensures { result ≤ 2 }
-{
-    2 * usize::from(line.word(1).text == b":".as_slice())
-}
-
-/// The last word of a line.
-fn last_of<'a>(line: &Line<'a>) -> Word<'a> {
-    line.word(line.words.len().saturating_sub(1))
-}
-
 /// What to write in place of a word that is no mnemonic.
 fn sentence_on_stray(line: &Line<'_>, word: &[u8]) -> Option<&'static [u8]> {
     let mut with_width = Vec::from_slice(line.alloc, word).ok()?;
@@ -78,61 +63,44 @@ fn sentence_on_stray(line: &Line<'_>, word: &[u8]) -> Option<&'static [u8]> {
     if read_mnemonic(with_width.as_slice()).is_some() {
         return Some(b"the width, 64 or 32, is a part of the mnemonic: add64, jeq32");
     }
-    Some(match (line.text_on_stray(word, STRAYS), word) {
-        (Some(sentence), _) => sentence,
-        (_, [b'A'..=b'Z', ..]) => b"mnemonics and registers are in lower case",
-        (_, [b'0'..=b'9', ..]) => {
-            b"a text has instructions; digits of an image go to list and to load"
-        }
-        _ => b"this is no mnemonic; docs/CARD.md has them all",
-    })
-}
-
-/// The form of a statement that its words fit best, up to this fault, if its mnemonic has one.
-fn best_form(line: &Line<'_>, fault: LineFault) -> Option<Option<Fit>> {
-    let first = label_words(line);
-    let mnemonic = line.word(first).text;
-    let mut best = None;
-    for row in FORMS.split(|octet| *octet == b'\n') {
-        let (form, examples) = sides(row);
-        for example in examples.split(|octet| *octet == b'|') {
-            if line.reader_refuses(mnemonic, example, LineFault::Range)? {
-                continue;
+    Some(
+        match (
+            text_on_word(word, STRAYS).or(text_on_word(word, line::STRAYS)),
+            word,
+        ) {
+            (Some(sentence), _) => sentence,
+            (_, [b'A'..=b'Z', ..]) => b"mnemonics and registers are in lower case",
+            (_, [b'0'..=b'9', ..]) => {
+                b"a text has instructions; digits of an image go to list and to load"
             }
-            let count = line.count_of_words(first, example, fault)?;
-            match best {
-                Some((_, _, most)) if count <= most => {}
-                _ => best = Some((form, example, count)),
-            }
-        }
-    }
-    Some(best)
+            _ => b"this is no mnemonic; docs/CARD.md has them all",
+        },
+    )
 }
 
 /// What was unexpected in the words of a line: its labels, or the statement after them.
 fn mark_of_words(line: &Line<'_>) -> Option<Mark> {
-    let first = label_words(line);
-    let label = line.word(0);
-    let Word { column, text } = line.word(first);
-    if first != 0 && line.reader_refuses(label.text, b":", LineFault::Syntax)? {
-        return mark_at(line.alloc, label.column, NO_LABEL);
+    let (label, column, word) = (line.from(0), line.column(0), line.word(0));
+    if line.first != 0 && line.refuses(label.word(0), b":", &[], LineFault::Syntax)? {
+        return mark_at(line.alloc, label.column(0), NO_LABEL);
     }
-    if line.word(first + 1).text == b":".as_slice() {
+    if line.word(1) == b":".as_slice() {
         return mark_at(line.alloc, column, b"a line has one label at most");
     }
-    let Some((form, _, count)) = best_form(line, LineFault::Syntax)? else {
-        return mark_at(line.alloc, column, sentence_on_stray(line, text)?);
+    let Some((form, _, count)) = line.best_form(FORMS, LineFault::Syntax)? else {
+        return mark_at(line.alloc, column, sentence_on_stray(line, word)?);
     };
-    let sentence = format!(in line.alloc; "{} {}", front_of_word(text), Shown(form)).ok()?;
-    Some((line.word(count).column, sentence))
+    let sentence = format!(in line.alloc; "{} {}", front_of_word(word), Shown(form)).ok()?;
+    Some((line.column(count), sentence))
 }
 
 /// What was unexpected in a line that is Syntax. An octet that begins no word comes before a word
 /// after it, and a zero octet before all.
 fn mark_of_syntax(line: &Line<'_>) -> Option<Mark> {
     let mark = mark_of_words(line)?;
-    let rest = line.text_from(line.end);
-    if line.end > mark.0 && !rest.starts_with(b"\0") {
+    let end = line.column(line.text.len());
+    let rest = line.text.get(end..).unwrap_or(&[]);
+    if end > mark.0 && !rest.starts_with(b"\0") {
         return Some(mark);
     }
     let sentence: &[u8] = match (text_on_front(rest, MARKS), rest) {
@@ -140,38 +108,35 @@ fn mark_of_syntax(line: &Line<'_>) -> Option<Mark> {
         (_, [(128..), ..]) => b"outside of comments a text is plain ASCII",
         _ => return Some(mark),
     };
-    mark_at(line.alloc, line.end, sentence)
+    mark_at(line.alloc, end, sentence)
 }
 
 /// What was out of its range in a line.
 fn mark_of_range(line: &Line<'_>) -> Option<Mark> {
-    if let Some((_, example, count)) = best_form(line, LineFault::Range)? {
-        let example = Line::new(line.alloc, line.reader, example)?;
-        let place = count.saturating_sub(label_words(line) + 1);
-        if let Some(sentence) = text_on_word(example.word(place).text, RANGES) {
-            return mark_at(line.alloc, line.word(count).column, sentence);
+    if let Some((_, example, count)) = line.best_form(FORMS, LineFault::Range)? {
+        let word = line.of(example).word(count.saturating_sub(1));
+        if let Some(sentence) = text_on_word(word, RANGES) {
+            return mark_at(line.alloc, line.column(count), sentence);
         }
     }
-    mark_at(line.alloc, last_of(line).column, LABEL)
+    mark_at(line.alloc, line.last_column(), LABEL)
 }
 
 /// What was unexpected in a line of assembly text.
 fn mark_of_why(line: &Line<'_>, why: Why) -> Option<Mark> {
-    let (word, sentence): (_, &[u8]) = match why {
+    let (label, last) = (line.from(0).column(0), line.last_column());
+    let (column, sentence): (_, &[u8]) = match why {
         Why::Syntax => return mark_of_syntax(line),
         Why::Range => return mark_of_range(line),
-        Why::DuplicateLabel => (line.word(0), b"this label labels another line already"),
-        Why::UnknownLabel => (last_of(line), b"no line of the text has this label"),
-        Why::Load(fault) => {
-            let word = match fault {
-                LoadFault::BadCall(_) | LoadFault::BadTarget(_) => last_of(line),
-                LoadFault::Decode(_, _) => line.word(label_words(line) + 1),
-                _ => line.word(label_words(line)),
-            };
-            (word, sentence_on_load(fault))
+        Why::DuplicateLabel => (label, b"this label labels another line already"),
+        Why::UnknownLabel => (last, b"no line of the text has this label"),
+        Why::Load(fault @ (LoadFault::BadCall(_) | LoadFault::BadTarget(_))) => {
+            (last, sentence_on_load(fault))
         }
+        Why::Load(fault @ LoadFault::Decode(_, _)) => (line.column(1), sentence_on_load(fault)),
+        Why::Load(fault) => (line.column(0), sentence_on_load(fault)),
     };
-    mark_at(line.alloc, word.column, sentence)
+    mark_at(line.alloc, column, sentence)
 }
 
 /// What was unexpected in an assembly text under a profile; None if nothing was, or if memory is
@@ -185,7 +150,9 @@ pub fn hint_on_text<'a>(alloc: Global, profile: Profile, text: &'a [u8]) -> Opti
     let Err(AsmFault::At { line: number, why }) = assemble(alloc, profile, text) else {
         return None;
     };
-    let line = Line::new(alloc, Reader::Assembler, line_at(text, number))?;
+    let line = Line::new(alloc, None, line_at(text, number));
+    let label_words = 2 * usize::from(line.word(1) == b":".as_slice());
+    let mark = mark_of_why(&line.from(label_words), why)?;
     let place = (number != 0).then_some(("line", number));
-    Some(Hint::new(place, line.text, mark_of_why(&line, why)?))
+    Some(Hint::new(place, line.text, mark))
 }

@@ -18,8 +18,12 @@ pub(crate) const SLOT_DIGITS: usize = 16;
 /// The sentence on an input that is too long.
 pub(crate) const TOO_LONG: &[u8] = b"an input has at most 1048576 octets";
 
+/// The sentence on digits that are no pairs.
+pub(crate) const ODD: &[u8] = b"the number of hexadecimal digits is even";
+
 /// What no image may have at a place.
-static MARKS: Table = b"\xef\xbb\xbf: this is a byte order mark: save the file without it
+static MARKS: Table = b"\t: this is a tab, and digits are in one row
+\xef\xbb\xbf: this is a byte order mark: save the file without it
 0x|0X|\\x: digits come alone, with nothing before them
 \x7fELF: this is an ELF file: examples/c/build makes the image of one
 \r: this is a carriage return, and a newline alone may end the digits";
@@ -38,18 +42,8 @@ BadCall: engine calls are 1 to 5, and 6 under profile 2
 BadTarget: a jump or a local call ends at an instruction of the image
 FallsOffEnd: the last instruction is exit, ja or ja32";
 
-/// The columns of the fields of an instruction that are zero unless it has a use for them, and
-/// their bits. With each of them the opcode and the immediate number are kept.
-static FIELDS: [(usize, u128); 5] = [
-    (8, 0),
-    (2, 0x00f0 << 112),
-    (3, 0x000f << 112),
-    (4, 0xffff << 96),
-    (SLOT_DIGITS, 0xffff_ffff << 32),
-];
-
-/// The bits of the opcode and of the immediate number.
-const KEPT: u128 = 0xff00_0000_ffff_ffff << 64;
+/// The bits of the immediate number of an instruction.
+const NUMBER: u128 = 0xffff_ffff << 64;
 
 /// What a fault of an image means.
 pub(crate) fn sentence_on_load(fault: LoadFault) -> &'static [u8] {
@@ -59,61 +53,43 @@ pub(crate) fn sentence_on_load(fault: LoadFault) -> &'static [u8] {
         .unwrap_or(&[])
 }
 
-/// What is said of an octet that is no hexadecimal digit.
-fn sentence_on_octet(octet: u8) -> &'static [u8] {
-    match octet {
-        b' ' | b'\n' => b"digits are in one row: tr -d ' \\n' takes blanks and newlines away",
-        b'\t' => b"this is a tab, and digits are in one row",
-        b'!'..=b'~' => b"this is no hexadecimal digit; an assembly text goes to asm",
-        _ => b"this is a raw image: od -An -v -tx1 | tr -d ' \\n' makes digits of it",
-    }
-}
-
-/// The text without the spaces and newlines at its end.
-fn digits_of(text: &[u8]) -> &[u8] {
-    for end in (0..text.len()).rev() {
-        if text[end] != b' ' && text[end] != b'\n' {
-            return &text[..end + 1];
-        }
-    }
-    &[]
-}
-
 /// What was unexpected in digits that spell no octets: the first octet that is no digit, or what no
 /// image may have from the digit before it on.
 fn mark_of_digits(alloc: Global, digits: &[u8]) -> Option<Mark> {
     let Some(end) = digits.iter().position(|octet| !octet.is_ascii_hexdigit()) else {
-        let sentence = b"the number of hexadecimal digits is even";
-        return mark_at(alloc, digits.len(), sentence);
+        return mark_at(alloc, digits.len(), ODD);
     };
     for column in [end.saturating_sub(1), end] {
         if let Some(sentence) = text_on_front(digits.get(column..).unwrap_or(&[]), MARKS) {
             return mark_at(alloc, column, sentence);
         }
     }
-    mark_at(alloc, end, sentence_on_octet(digits[end]))
+    let sentence: &[u8] = match digits[end] {
+        b' ' | b'\n' => b"digits are in one row: tr -d ' \\n' takes blanks and newlines away",
+        b'!'..=b'~' => b"this is no hexadecimal digit; an assembly text goes to asm",
+        _ => b"this is a raw image: od -An -v -tx1 | tr -d ' \\n' makes digits of it",
+    };
+    mark_at(alloc, end, sentence)
 }
 
-/// The number of digits of an instruction before the field at fault: the first with which alone the
-/// decoder has the fault.
+/// The number of digits of an instruction before the field at fault: the first with which the
+/// decoder has the fault if the fields after it are zero, the immediate number apart.
 fn column_of_fault(code: &[u8], fault: DecodeFault) -> usize {
-    match fault {
-        DecodeFault::CutWide => return SLOT_DIGITS,
-        DecodeFault::UnknownOpcode => return 0,
-        _ => {}
+    if fault == DecodeFault::UnknownOpcode {
+        return 0;
     }
     let mut octets = [0u8; 16];
     for (place, octet) in octets.iter_mut().zip(code) {
         *place = *octet;
     }
-    for (column, bits) in &FIELDS {
-        let alone = u128::from_be_bytes(octets) & (KEPT | *bits);
-        match decode_at(&alone.to_be_bytes(), 0) {
-            Err(found) if found == fault => return *column,
-            _ => {}
+    for (column, bits_after) in [(8, 120), (2, 116), (3, 112), (4, 96), (SLOT_DIGITS, 0)] {
+        let fields = u128::MAX.wrapping_shl(bits_after) | NUMBER;
+        let front = u128::from_be_bytes(octets) & fields;
+        if matches!(decode_at(&front.to_be_bytes(), 0), Err(found) if found == fault) {
+            return column;
         }
     }
-    0
+    SLOT_DIGITS
 }
 
 /// What was unexpected in the digits of an image, which spaces and newlines may follow; None if
@@ -124,7 +100,13 @@ pub fn hint_on_image<'a>(alloc: Global, text: &'a [u8]) -> Option<Hint<'a>>
     if text.len() > MAX_INPUT {
         return Some(Hint::new(None, &[], mark_at(alloc, 0, TOO_LONG)?));
     }
-    let digits = digits_of(text);
+    let mut digits = text;
+    for _ in 0..text.len() {
+        match digits {
+            [start @ .., b' ' | b'\n'] => digits = start,
+            _ => break,
+        }
+    }
     let mut room = Vec::new(alloc);
     let Some(image) = octets_of(&mut room, digits).ok()? else {
         return Some(Hint::new(None, digits, mark_of_digits(alloc, digits)?));

@@ -1,12 +1,10 @@
 //! The words of a line, and where its reader refuses it: the words of the line replace those of an
 //! example, one after another, and the reader is asked each time.
 
-ghost use Rattle.std.specs.Prelude.{◌≤◌, length};
-
 use crate::hint::front_of;
-use crate::tables::{Table, text_on_word};
-use bpf_text::{LineFault, read_line};
-use ocp_lines::read_command;
+use crate::tables::{Table, sides};
+use bpf_text::{LineFault, Scan, next_token, read_line};
+use ocp_lines::{next_word, read_command};
 use ocp_profile::Profile;
 use std::alloc::Global;
 use text_lines::first_line;
@@ -26,35 +24,22 @@ pub(crate) static MARKS: Table = b"\xef\xbb\xbf: this is a byte order mark: save
 (|)|{|}|*|\"|'|<|>|&|%|$: no instruction, label or number has this sign";
 
 /// Words that begin no line.
-static STRAYS: Table = b"error: this is the fault line of another command: mend its input
+pub(crate) static STRAYS: Table = b"error: this is the fault line of another command: mend its input
 int|unsigned|static|struct|void|typedef|extern|word: \
 this is C: examples/c/build makes the image of a C text";
 
-/// What reads a line.
-#[derive(Clone, Copy)]
-pub(crate) enum Reader {
-    /// The console, under a profile.
-    Console(Profile),
-    Assembler,
-}
+/// What may follow the first word of a line, an example of it, and the number of words of the line
+/// that fit the example.
+pub(crate) type Fit = (&'static [u8], &'static [u8], usize);
 
-/// A word of a line, or a token of assembly text, and the number of octets before it.
+/// A line of a script under a profile, or of assembly text if there is none.
 #[derive(Clone, Copy)]
-pub(crate) struct Word<'a> {
-    pub column: usize,
-    pub text: &'a [u8],
-}
-
-/// A line of a reader.
-#[derive(Drop)]
 pub(crate) struct Line<'a> {
     pub alloc: Global,
-    pub reader: Reader,
+    pub profile: Option<Profile>,
     pub text: &'a [u8],
-    /// Its words before the first octet that begins none.
-    pub words: Vec<Word<'a>>,
-    /// The column of that octet; if there is none, the one after the last word.
-    pub end: usize,
+    /// The number of words before the first that counts: those of a label, or `send <flags>`.
+    pub first: usize,
 }
 
 /// The line of this number, from 1; the empty line if there is none.
@@ -65,114 +50,109 @@ pub(crate) fn line_at(text: &[u8], number: u64) -> &[u8] {
         if rest.is_empty() {
             return &[];
         }
-        let (first, after) = first_line(rest);
-        line = first;
-        rest = after;
+        (line, rest) = first_line(rest);
     }
     line
 }
 
-/// The number of octets of a line before this end of it.
-fn column_of(line: &[u8], end: &[u8]) -> usize {
-    line.len().saturating_sub(end.len())
-}
-
-/// The number of octets at the front of a text that a name, a number or a mnemonic may have.
-fn name_length(text: &[u8]) -> usize
-    ensures { result ≤ length text.now }
-{
-    text.iter()
-        .position(|octet| !octet.is_ascii_alphanumeric() && *octet != b'_')
-        .unwrap_or(text.len())
-}
-
-impl Reader {
-    /// The text from its first octet on that is no blank.
-    fn without_blanks(self, text: &[u8]) -> &[u8] {
-        let has_tabs = matches!(self, Reader::Assembler);
-        let blanks = text
-            .iter()
-            .position(|octet| *octet != b' ' && !(has_tabs && *octet == b'\t'))
-            .unwrap_or(text.len());
-        &text[blanks..]
-    }
-
-    /// The number of octets of the word at the front of a text, or 0 if there is none.
-    fn word_length(self, text: &[u8]) -> usize
-        ensures { result ≤ length text.now }
-    {
-        match (self, text) {
-            (Reader::Console(_), _) => text
-                .iter()
-                .position(|octet| !octet.is_ascii_graphic())
-                .unwrap_or(text.len()),
-            (_, [b',' | b'[' | b']' | b':', ..]) => 1,
-            (_, [b'+' | b'-', name @ ..]) if name_length(name) != 0 => name_length(name) + 1,
-            _ => name_length(text),
-        }
-    }
-}
-
 impl<'a> Line<'a> {
-    /// A line of a reader; None if memory is refused.
-    pub fn new(alloc: Global, reader: Reader, text: &'a [u8]) -> Option<Line<'a>> {
-        let mut words = Vec::new(alloc);
-        let mut rest = text;
-        for _ in 0..text.len() {
-            let front = reader.without_blanks(rest);
-            let length = reader.word_length(front);
-            if length == 0 {
-                break;
-            }
-            let word = Word {
-                column: column_of(text, front),
-                text: &front[..length],
-            };
-            words.push(word).ok()?;
-            rest = &front[length..];
-        }
-        let end = match reader.without_blanks(rest) {
-            [] | [b';', ..] => rest,
-            bad => bad,
-        };
-        Some(Line {
+    /// A line of which all words count.
+    pub fn new(alloc: Global, profile: Option<Profile>, text: &'a [u8]) -> Line<'a> {
+        Line {
             alloc,
-            reader,
+            profile,
             text,
-            words,
-            end: column_of(text, end),
-        })
+            first: 0,
+        }
     }
 
-    /// The word with this many others before it; after the last one the empty word.
-    pub fn word(&self, count: usize) -> Word<'a> {
-        match self.words.get(count) {
-            Some(word) => *word,
-            None => Word {
-                column: self.end,
-                text: &[],
+    /// Another line of the same reader, of which all words count.
+    pub fn of<'b>(&self, text: &'b [u8]) -> Line<'b> {
+        Line::new(self.alloc, self.profile, text)
+    }
+
+    /// The same line without this many words.
+    pub fn from(&self, first: usize) -> Line<'a> {
+        Line { first, ..*self }
+    }
+
+    /// The first word of a text, or token of assembly text, and what follows it; or the empty word.
+    fn next_word<'b>(&self, text: &'b [u8]) -> (&'b [u8], &'b [u8]) {
+        match self.profile {
+            Some(_) => next_word(text).unwrap_or((&[], text)),
+            None => match next_token(text) {
+                Scan::Found(token, rest) => (token, rest),
+                _ => (&[], text),
             },
         }
     }
 
-    /// The line from a column on.
-    pub fn text_from(&self, column: usize) -> &'a [u8] {
-        self.text.get(column..).unwrap_or(&[])
+    /// The line after this many of its words.
+    pub fn after(&self, count: usize) -> &'a [u8] {
+        let mut rest = self.text;
+        for _ in 0..self.first.saturating_add(count) {
+            let (word, after) = self.next_word(rest);
+            if word.is_empty() {
+                break;
+            }
+            rest = after;
+        }
+        rest
     }
 
-    /// Whether its reader refuses the line of two texts with a space between them, for this fault
-    /// or for Syntax; None if memory is refused.
-    pub fn reader_refuses(&self, front: &[u8], end: &[u8], fault: LineFault) -> Option<bool> {
-        let mut line = Vec::from_slice(self.alloc, front).ok()?;
-        line.push(b' ').ok()?;
-        line.extend_from_slice(end).ok()?;
-        match self.reader {
-            Reader::Console(profile) => {
-                let mut scratch = Vec::new(self.alloc);
-                let command = read_command(&mut scratch, profile, line.as_slice()).ok()?;
-                Some(command.is_none())
+    /// The word with this many others before it; after the last one the empty word.
+    pub fn word(&self, count: usize) -> &'a [u8] {
+        self.next_word(self.after(count)).0
+    }
+
+    /// The number of octets before this end of the line.
+    fn before(&self, end: &[u8]) -> usize {
+        self.text.len().saturating_sub(end.len())
+    }
+
+    /// The number of octets before a word; for the empty word, before what begins no word.
+    pub fn column(&self, count: usize) -> usize {
+        let rest = self.after(count);
+        let is_word = !self.word(count).is_empty();
+        let blanks = match rest.iter().position(|octet| !matches!(octet, b' ' | b'\t')) {
+            Some(blanks) if is_word || rest[blanks] != b';' => blanks,
+            _ => 0,
+        };
+        self.before(rest).saturating_add(blanks)
+    }
+
+    /// The number of octets before the last word.
+    pub fn last_column(&self) -> usize {
+        let mut column = 0;
+        let mut rest = self.after(0);
+        for _ in 0..self.text.len() {
+            let (word, after) = self.next_word(rest);
+            if word.is_empty() {
+                break;
             }
-            Reader::Assembler => match read_line(line.as_slice()) {
+            column = self.before(after).saturating_sub(word.len());
+            rest = after;
+        }
+        column
+    }
+
+    /// The line up to the end of a word.
+    fn front(&self, count: usize) -> &'a [u8] {
+        front_of(self.text, self.before(self.after(count.saturating_add(1))))
+    }
+
+    /// Whether its reader refuses a line of three pieces, for this fault or for Syntax; None if
+    /// memory is refused.
+    pub fn refuses(&self, front: &[u8], word: &[u8], end: &[u8], fault: LineFault) -> Option<bool> {
+        let mut line = Vec::from_slice(self.alloc, front).ok()?;
+        line.extend_from_slice(word).ok()?;
+        line.extend_from_slice(end).ok()?;
+        match self.profile {
+            Some(profile) => {
+                let mut octets = Vec::new(self.alloc);
+                Some(read_command(&mut octets, profile, &line).ok()?.is_none())
+            }
+            None => match read_line(&line) {
                 Ok(_) => Some(false),
                 Err(found) => Some(found == LineFault::Syntax || found == fault),
             },
@@ -180,22 +160,35 @@ impl<'a> Line<'a> {
     }
 
     /// The number of words before the first with which its reader refuses the line, for this fault
-    /// or for Syntax. The example follows the word with `from` others before it.
-    pub fn count_of_words(&self, from: usize, example: &[u8], fault: LineFault) -> Option<usize> {
-        let example = Line::new(self.alloc, self.reader, example)?;
-        for count in from..self.words.len() {
-            let word = self.words[count];
-            let front = front_of(self.text, word.column.saturating_add(word.text.len()));
-            let end = example.text_from(example.word(count - from).column);
-            if self.reader_refuses(front, end, fault)? {
+    /// or for Syntax. The example follows the first word.
+    pub fn count_of_words(&self, example: &'static [u8], fault: LineFault) -> Option<usize> {
+        let example = self.of(example);
+        for count in 0..self.text.len() {
+            let (front, end) = (self.front(count), example.after(count));
+            if self.word(count).is_empty() || self.refuses(front, b" ", end, fault)? {
                 return Some(count);
             }
         }
-        Some(self.words.len())
+        Some(self.text.len())
     }
 
-    /// The sentence on a word that begins no line, from the given table or from the common one.
-    pub fn text_on_stray(&self, word: &[u8], strays: Table) -> Option<&'static [u8]> {
-        text_on_word(word, strays).or(text_on_word(word, STRAYS))
+    /// The form that its words fit best, up to this fault, and of several the first. None within if
+    /// its reader takes no example after its first word.
+    pub fn best_form(&self, forms: Table, fault: LineFault) -> Option<Option<Fit>> {
+        let mut best = None;
+        for row in forms.split(|octet| *octet == b'\n') {
+            let (form, examples) = sides(row);
+            for example in examples.split(|octet| *octet == b'|') {
+                if self.refuses(self.front(0), b" ", example, LineFault::Range)? {
+                    continue;
+                }
+                let count = self.count_of_words(example, fault)?;
+                match best {
+                    Some((_, _, most)) if count <= most => {}
+                    _ => best = Some((form, example, count)),
+                }
+            }
+        }
+        Some(best)
     }
 }

@@ -4,60 +4,40 @@ ghost use Rattle.std.specs.Prelude.{IfSome};
 ghost use Rattle.ocp_hints.specs.Columns.{IsWithin};
 
 use crate::hint::{Hint, Mark, Shown, front_of, front_of_word, mark_at};
-use crate::image::SLOT_DIGITS;
-use crate::line::{Line, MARKS, Reader, Word, line_at};
-use crate::tables::{Table, sides, text_on_front};
+use crate::image::{ODD, SLOT_DIGITS};
+use crate::line::{self, Line, MARKS, line_at};
+use crate::tables::{Table, text_on_front, text_on_word};
 use bpf_text::LineFault;
+use ocp_lines::{MAX_LINE_OCTETS, MAX_LINES};
 use ocp_ports::ConsoleFault;
 use ocp_profile::Profile;
 use std::alloc::Global;
 
-/// The activation of profile 1.
-const ACTIVATE: &[u8] = b"send <flags> activate <id> [<hex>]";
+/// What may follow a verb, and an example of it with the greatest numbers. A verb has the first of
+/// those forms of which the console takes the example after it.
+static FORMS: Table = b" [<hex>]: 0a
+ <index> <value>: 18446744073709551615 18446744073709551615
+ <index>: 18446744073709551615
+ <seconds>: 4294967295
+ <id> <n>: 65535 1000000
+ <id> <place>: 65535 65535
+ <id>: 65535
+ <id> on|off: 65535 on
+ <id> 0x<digits> <length>: 65535 0x0 256
+ <workers> <budget> <turns>: 16 1000000 1000000
+ <flags> <verb> ..: 15 status
+:";
 
-/// The forms of all lines, and an example of what may follow the first word of such a line.
-static FORMS: Table = b"up [<hex>]: 0a
-time <seconds>: 0
-step <id> <n>: 0 1
-round <id> <n>: 0 1
-view <id>: 0
-mem <id> 0x<digits> <length>: 0 0x0 1
-break <id> <place>: 0 0
-unbreak <id> <place>: 0 0
-trace <id> on|off: 0 on
-pool <index>: 0
-put <index> <value>: 0 0
-journal:
-drain:
-work <workers> <budget> <turns>: 1 1 1
-send <flags> load <id> [<hex>]: 0 load 0 0a
-send <flags> unload <id>: 0 unload 0
-send <flags> activate <id> [<hex>]: 0 activate 0 0a
-send <flags> activate <id> <budget> [<hex>]: 0 activate 0 0 0a
-send <flags> stop <id> <step>: 0 stop 0 0
-send <flags> suspend <id> <step>: 0 suspend 0 0
-send <flags> resume <id>: 0 resume 0
-send <flags> abort <id>: 0 abort 0
-send <flags> communicate <id> <number> ..: 0 communicate 0 0
-send <flags> status: 0 status
-send <flags> <verb> ..: 0 status";
+/// What may follow a verb of `send`, in the same way.
+static REQUESTS: Table = b" <id> [<hex>]: 65535 0a
+ <id> <budget> [<hex>]: 65535 4294967295 0a
+ <id> <number> ..: 65535 18446744073709551615
+ <id> <step>: 65535 65535
+ <id>: 65535
+:";
 
-/// What each part of a form takes. A key is the front of a form from that part on.
-static PARTS: Table = b"<flags>: flags is 0 to 15
-<id>: id is 0 to 65535
-<place>: place is 0 to 65535
-<step>: step is 0 to 65535
-<n>: n is 1 to 1000000
-<seconds>: seconds is 0 to 4294967295
-<length>: length is 1 to 256
-<index>: index is 0 to 18446744073709551615
-<value>: value is 0 to 18446744073709551615
-<number>|..: number is 0 to 18446744073709551615
-<budget> <turns>: budget is 1 to 1000000
-<budget>: budget is 0 to 4294967295
-<workers>: workers is 1 to 16
-<turns>: turns is 1 to 1000000
-0x: an address is 0x and 1 to 16 hexadecimal digits
+/// What may stand in the parts of forms that are no numbers.
+static PARTS: Table = b"0x: an address is 0x and 1 to 16 hexadecimal digits
 on: a switch is on or off
 <verb>: a verb of send is one of load, unload, activate, stop, suspend, resume, abort, \
 communicate, status";
@@ -76,36 +56,6 @@ const NO_FLAGS: &str = "requests begin with send and the flags: send <flags>";
 const NO_COMMAND: &[u8] = b"a line begins with send, up, time, step, round, view, mem, break, \
                             unbreak, trace, pool, put, journal, drain, work";
 
-/// The most lines of a script, and the most octets of a line.
-const MAX_LINES: u64 = 100_000;
-
-const MAX_LINE_OCTETS: usize = 40_000;
-
-/// Whether the first word of a line or of a form is `send`.
-fn is_request(line: &Line<'_>) -> bool {
-    line.word(0).text.eq_ignore_ascii_case(b"send")
-}
-
-/// The verb of a line or of a form: its first word, or the third if the first is `send`.
-fn verb_of<'a>(line: &Line<'a>) -> Word<'a> {
-    line.word(if is_request(line) { 2 } else { 0 })
-}
-
-/// The form of the lines with a verb in any letters, if there is one, and its example. An
-/// activation has one under each profile.
-fn form_of(line: &Line<'_>, verb: &[u8]) -> Option<Option<(Line<'static>, &'static [u8])>> {
-    for row in FORMS.split(|octet| *octet == b'\n') {
-        let (form, example) = sides(row);
-        let form = Line::new(line.alloc, line.reader, form)?;
-        if verb_of(&form).text.eq_ignore_ascii_case(verb)
-            && !line.reader_refuses(form.word(0).text, example, LineFault::Syntax)?
-        {
-            return Some(Some((form, example)));
-        }
-    }
-    Some(None)
-}
-
 /// The sentence for a word that is for no part of a form, or in place of its octets.
 fn sentence_on_rest(form: &[u8], is_octets: bool, word: &[u8]) -> &'static [u8] {
     let are_digits = word.iter().all(|octet| octet.is_ascii_hexdigit());
@@ -115,90 +65,118 @@ fn sentence_on_rest(form: &[u8], is_octets: bool, word: &[u8]) -> &'static [u8] 
         _ if is_octets && !are_digits => b"octets are hexadecimal digits only",
         _ if is_octets && word.len() % 2 == 0 => b"arguments have at most 256 octets",
         [b'#' | b';' | b'/', ..] => b"a comment is a line of its own",
-        _ if form == ACTIVATE => BUDGET,
-        _ if is_octets => b"the number of hexadecimal digits is even",
+        _ if form.ends_with(b"activate <id> [<hex>]") => BUDGET,
+        _ if is_octets => ODD,
         _ => b"nothing more may stand here",
     }
 }
 
-/// What was unexpected in a line that begins as its form.
-fn mark_of_form(line: &Line<'_>, form: &Line<'static>, example: &'static [u8]) -> Option<Mark> {
-    let count = line.count_of_words(0, example, LineFault::Syntax)?;
-    let word = line.word(count);
-    // The part `..` is for each word from there on.
-    let part = match form.words.last() {
-        Some(last) if last.text == b"..".as_slice() && count >= form.words.len() => *last,
-        _ => form.word(count),
-    };
-    let form_text = Shown(form.text);
-    let front = front_of(line.text, word.column);
-    let is_full = line.reader_refuses(front, b"0", LineFault::Syntax)?;
-    let sentence = match text_on_front(form.text_from(part.column), PARTS) {
-        _ if word.text.is_empty() => {
-            format!(in line.alloc; "{form_text}: {} is missing", Shown(part.text))
-        }
-        _ if word.text.eq_ignore_ascii_case(part.text) => {
-            format!(in line.alloc; "lines are in lower case: {}", Shown(part.text))
-        }
-        Some(text) if !(is_full && part.text == b"..".as_slice()) => {
-            let joint = match (part.text, word.text) {
-                ([b'<' | b'.', ..], [b'0', b'x' | b'X', ..]) => ", in decimal digits",
-                _ => "",
-            };
-            let found = front_of_word(word.text);
-            format!(in line.alloc; "{form_text}: {}{joint}, found {found}", Shown(text))
-        }
-        _ => {
-            let text = sentence_on_rest(form.text, part.text.starts_with(b"["), word.text);
-            format!(in line.alloc; "{form_text}: {}", Shown(text))
-        }
-    };
-    Some((word.column, sentence.ok()?))
+/// The sentence for a word in place of another part.
+fn sentence_on_part(alloc: Global, text: &[u8], word: &[u8]) -> Option<String> {
+    let (text, found) = (Shown(text), front_of_word(word));
+    format!(in alloc; "{text}, found {found}").ok()
 }
 
-/// What was unexpected in a line that begins with no verb.
+/// The sentence for a word in place of a number from the least to the greatest of these.
+fn sentence_on_number(
+    alloc: Global,
+    name: &[u8],
+    least: char,
+    most: &[u8],
+    word: &[u8],
+) -> Option<String> {
+    let joint = match word {
+        [b'0', b'x' | b'X', ..] => ", in decimal digits",
+        _ => "",
+    };
+    let (name, most, found) = (Shown(name), Shown(most), front_of_word(word));
+    format!(in alloc; "{name} is {least} to {most}{joint}, found {found}").ok()
+}
+
+/// What was unexpected in a line of this form, whose example follows the verb.
+fn mark_of_form(line: &Line<'_>, form: String, example: &'static [u8]) -> Option<Mark> {
+    let count = line.count_of_words(example, LineFault::Syntax)?;
+    let (column, word) = (line.column(count), line.word(count));
+    let part = line.of(form.as_bytes()).from(line.first).word(count);
+    let (example, front) = (line.of(example), front_of(line.text, column));
+    let mut least = None;
+    for digit in *b"10" {
+        if !line.refuses(front, &[digit], example.after(count), LineFault::Syntax)? {
+            least = Some(char::from(digit));
+        }
+    }
+    let sentence = match text_on_front(part, PARTS) {
+        _ if word.is_empty() => format!(in line.alloc; "{} is missing", Shown(part)).ok()?,
+        _ if word.eq_ignore_ascii_case(part) => {
+            format!(in line.alloc; "lines are in lower case: {}", Shown(part)).ok()?
+        }
+        Some(text) => sentence_on_part(line.alloc, text, word)?,
+        None => match (least, part) {
+            (Some(least), [b'<', name @ .., b'>']) => {
+                let most = example.word(count.saturating_sub(1));
+                sentence_on_number(line.alloc, name, least, most, word)?
+            }
+            // The part `..` is for more numbers.
+            (Some(least), _) => {
+                sentence_on_number(line.alloc, b"number", least, example.word(1), word)?
+            }
+            (None, _) => {
+                let text = sentence_on_rest(form.as_bytes(), part.starts_with(b"["), word);
+                format!(in line.alloc; "{}", Shown(text)).ok()?
+            }
+        },
+    };
+    let sentence = format!(in line.alloc; "{form}: {sentence}").ok()?;
+    Some((column, sentence))
+}
+
+/// What was unexpected in a line in lower case that begins with no verb.
 fn mark_of_stray(line: &Line<'_>) -> Option<Mark> {
-    let word = line.word(0);
-    let is_image = !line.reader_refuses(b"send 0 load 0", word.text, LineFault::Syntax)?;
-    let sentence = match line.text_on_stray(word.text, STRAYS) {
+    let (column, word) = (line.column(0), line.word(0));
+    let text = format!(in line.alloc; "send 0 {}", Shown(word)).ok()?;
+    let request = line.of(text.as_bytes()).from(2);
+    if let Some((form, _, _)) = request.best_form(REQUESTS, LineFault::Syntax)? {
+        let (verb, form) = (Shown(word), Shown(form));
+        let sentence = format!(in line.alloc; "{NO_FLAGS} {verb}{form}").ok()?;
+        return Some((column, sentence));
+    }
+    let is_image = !line.refuses(b"send 0 load 0 ", word, &[], LineFault::Syntax)?;
+    let sentence = match text_on_word(word, STRAYS).or(text_on_word(word, line::STRAYS)) {
         Some(sentence) => sentence,
-        None if is_image && word.text.len() >= SLOT_DIGITS => {
+        None if is_image && word.len() >= SLOT_DIGITS => {
             b"digits of an image come after send <flags> load <id>"
         }
         None => NO_COMMAND,
     };
-    mark_at(line.alloc, word.column, sentence)
+    mark_at(line.alloc, column, sentence)
 }
 
-/// What was unexpected in the words of a line.
+/// What was unexpected in the words of a line. Its form is that of the line in lower case.
 fn mark_of_words(line: &Line<'_>) -> Option<Mark> {
-    let verb = verb_of(line);
-    match form_of(line, verb.text)? {
-        Some((form, example)) if is_request(&form) == is_request(line) => {
-            mark_of_form(line, &form, example)
+    let text = line.text.to_ascii_lowercase(line.alloc).ok()?;
+    let lower = line.of(text.as_slice());
+    if line.word(0) == b"send".as_slice() {
+        let request = lower.from(2);
+        if let Some((form, example, _)) = request.best_form(REQUESTS, LineFault::Syntax)? {
+            let (verb, form) = (Shown(request.word(0)), Shown(form));
+            let form = format!(in line.alloc; "send <flags> {verb}{form}").ok()?;
+            return mark_of_form(&line.from(2), form, example);
         }
-        _ if is_request(line) => {
-            let (form, example) = form_of(line, b"<verb>")??;
-            mark_of_form(line, &form, example)
-        }
-        Some((form, _)) => {
-            let verb_of_form = Shown(verb_of(&form).text);
-            let sentence = format!(in line.alloc; "{NO_FLAGS} {verb_of_form} ..").ok()?;
-            Some((verb.column, sentence))
-        }
-        None => mark_of_stray(line),
     }
+    let Some((form, example, _)) = lower.best_form(FORMS, LineFault::Syntax)? else {
+        return mark_of_stray(&lower);
+    };
+    let form = format!(in line.alloc; "{}{}", Shown(lower.word(0)), Shown(form)).ok()?;
+    mark_of_form(line, form, example)
 }
 
 /// What was unexpected in a line under the profile.
 fn mark_of_line(alloc: Global, profile: Profile, text: &[u8]) -> Option<Mark> {
-    let line = Line::new(alloc, Reader::Console(profile), text)?;
-    let rest = line.text_from(line.end);
-    if rest.iter().all(|octet| *octet == b' ') {
-        return mark_of_words(&line);
-    }
-    let sentence = text_on_front(rest, MARKS).unwrap_or(b"this is no plain ASCII");
-    mark_at(line.alloc, line.end, sentence)
+    let Some(column) = text.iter().position(|octet| !matches!(octet, b' '..=b'~')) else {
+        return mark_of_words(&Line::new(alloc, Some(profile), text));
+    };
+    let sentence = text_on_front(&text[column..], MARKS).unwrap_or(b"this is no plain ASCII");
+    mark_at(alloc, column, sentence)
 }
 
 /// What was unexpected in the line of a script for which this fault was answered under a profile;
@@ -213,22 +191,23 @@ pub fn hint_on_script<'a>(
 ) -> Option<Hint<'a>>
     ensures within { IfSome result (λ hint. IsWithin hint.line.now hint.column) }
 {
-    let number = match fault {
-        ConsoleFault::Syntax(number) | ConsoleFault::LineTooLong(number) => u64::from(*number),
-        ConsoleFault::TooManyLines => MAX_LINES + 1,
+    let (number, column, limit) = match *fault {
+        ConsoleFault::Syntax(number) => (number, 0, None),
+        ConsoleFault::LineTooLong(number) => {
+            let limit = format!(in alloc; "a line has at most {MAX_LINE_OCTETS} octets").ok()?;
+            (number, MAX_LINE_OCTETS, Some(limit))
+        }
+        ConsoleFault::TooManyLines => {
+            let limit = format!(in alloc; "a script has at most {MAX_LINES} lines").ok()?;
+            (MAX_LINES + 1, 0, Some(limit))
+        }
         _ => return None,
     };
+    let number = u64::from(number);
     let line = line_at(text, number.saturating_sub(before));
-    let mark = match fault {
-        ConsoleFault::Syntax(_) => mark_of_line(alloc, profile, line)?,
-        ConsoleFault::LineTooLong(_) => {
-            let sentence = format!(in alloc; "a line has at most {MAX_LINE_OCTETS} octets").ok()?;
-            (MAX_LINE_OCTETS, sentence)
-        }
-        _ => (
-            0,
-            format!(in alloc; "a script has at most {MAX_LINES} lines").ok()?,
-        ),
+    let mark = match limit {
+        Some(limit) => (column, limit),
+        None => mark_of_line(alloc, profile, line)?,
     };
     Some(Hint::new(Some(("line", number)), line, mark))
 }
