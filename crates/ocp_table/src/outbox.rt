@@ -1,6 +1,6 @@
 //! The completions that wait to be reported.
 ghost use Rattle.std.specs.Prelude.{◌≡◌, ◌++◌};
-ghost use Rattle.ocp_table.specs.Clauses.{HasPlaceBeside, dues_by_outcome, failed_completion};
+ghost use Rattle.ocp_table.specs.Clauses.{HasPlaceBeside, dues_at_step_end, dues_by_outcome, failed_completion};
 
 use crate::control::matches;
 use crate::{Called, CompletionFailure, Due, InstructionOutcome, OUTBOX_PLACES, Pending};
@@ -24,25 +24,31 @@ pub(crate) fn overtake(outbox: &mut Outbox, pending: Pending)
     });
 }
 
-/// Files what an instruction event completes or overtakes. What is pending for the end of a step is
-/// reported if the flag of its request is set.
+// A step ends: what is pending for it is completed, and reported if the flag of its request is set.
+fn end_step(outbox: &mut Outbox, pending: Pending, step: u16)
+    requires { HasPlaceBeside outbox.old.items pending }
+    ensures { outbox.new.items ≡ outbox.old.items ++ dues_at_step_end pending step }
+{
+    let (Pending::Stop(wanted, origin) | Pending::Suspend(wanted, origin)) = pending else {
+        return;
+    };
+    if matches(wanted, step) && is_completion_asked(origin.ack) {
+        outbox.push(Due {
+            origin,
+            failure: None,
+        });
+    }
+}
+
+/// Files what an instruction event completes or overtakes.
 #[inline(always)]
 pub(crate) fn file(outbox: &mut Outbox, pending: &Pending, outcome: InstructionOutcome)
     requires { HasPlaceBeside outbox.old.items pending.now }
     ensures { outbox.new.items ≡ outbox.old.items ++ dues_by_outcome outcome pending.now }
 {
-    let (Pending::Stop(wanted, origin) | Pending::Suspend(wanted, origin)) = *pending else {
-        return;
-    };
-    let failure = match outcome {
-        InstructionOutcome::Called(Called::StepEnd(step))
-            if matches(wanted, step) && is_completion_asked(origin.ack) => { None }
-        InstructionOutcome::Ended | InstructionOutcome::Faulted(_) => {
-            Some(CompletionFailure::Overtaken)
-        }
-        InstructionOutcome::Broke | InstructionOutcome::Ran | InstructionOutcome::Called(_) => {
-            return;
-        }
-    };
-    outbox.push(Due { origin, failure });
+    match outcome {
+        InstructionOutcome::Called(Called::StepEnd(step)) => end_step(outbox, *pending, step),
+        InstructionOutcome::Ended | InstructionOutcome::Faulted(_) => overtake(outbox, *pending),
+        InstructionOutcome::Broke | InstructionOutcome::Ran | InstructionOutcome::Called(_) => {}
+    }
 }
