@@ -50,6 +50,7 @@ fn call_of<A: Allocator>(
             })
         }
         4 => Some(Called::NextParam(mailbox.take())),
+        5 => Some(Called::StepEnd((r1 % 0x1_0000) as u16)),
         6 => {
             let old = pool.get(r1)?;
             if old == r2 {
@@ -62,7 +63,7 @@ fn call_of<A: Allocator>(
                 old,
             })
         }
-        _ => Some(Called::StepEnd((r1 % 0x1_0000) as u16)),
+        _ => unreachable!(),
     }
 }
 
