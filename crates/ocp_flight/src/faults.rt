@@ -1,24 +1,23 @@
 //! Why entries are not released, and why an entry is not read.
 
+use thiserror::Error;
+
 /// Why entries are not released. Nothing is changed then.
-#[derive(Clone, Copy, PartialEq, Eq, Debug)]
+#[derive(Clone, Copy, PartialEq, Eq, Debug, Error)]
 pub enum ReleaseFault {
-    /// Fewer entries are held.
+    #[error("fewer entries are held")]
     NotHeld,
-    /// There were 2^63 events or more.
+    #[error("there were 2^63 events or more")]
     Spent,
 }
 
 /// Why an entry is not read. The buffer keeps its octets then.
-#[derive(Clone, Copy, PartialEq, Eq, Debug)]
+#[derive(Clone, Copy, PartialEq, Eq, Debug, Error)]
 pub enum EntryFault {
-    /// It was released.
+    #[error("the entry was released")]
     Released,
-    /// There is no such entry yet.
+    #[error("there is no such entry yet")]
     NotYet,
-    /// The buffer is shorter than the entry.
-    TooShort {
-        /// The number of octets of the entry.
-        length: usize,
-    },
+    #[error("the entry has {length} octets, and the buffer has fewer")]
+    TooShort { length: usize },
 }

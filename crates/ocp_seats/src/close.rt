@@ -13,8 +13,7 @@ use thiserror::Error;
 /// Why a book is not closed, in this order.
 #[derive(Clone, Copy, PartialEq, Eq, Debug, Error)]
 pub enum CloseFault {
-    /// The seats are not those that the book gave out, each once.
-    #[error("the seats are not those given out")]
+    #[error("the seats are not those that the book gave out, each once")]
     MissingSeat,
     /// An entry since the start is by none of the seats, or the receipts of a seat are not its
     /// entries with their marks.

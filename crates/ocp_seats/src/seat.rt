@@ -110,7 +110,6 @@ impl<L: Naming, A: Allocator> Seat<L, A> {
 /// Why no seat is given out, in this order.
 #[derive(Clone, Copy, PartialEq, Eq, Debug, Error)]
 pub enum SeatFault {
-    /// All are given out.
     #[error("all seats are given out")]
     SeatsFull,
     #[error("out of memory")]

@@ -120,8 +120,7 @@ fn seats_of<L: Naming, B: Board<L>, R: Wait>(
 /// Why an engine does not come back.
 #[derive(Clone, Copy, PartialEq, Eq, Debug, Error)]
 pub enum WorkFault {
-    /// There is no memory for the seats.
-    #[error("out of memory")]
+    #[error("there is no memory for the seats")]
     Memory,
     /// A seat was not given out, or the shared engine was not closed. No schedule is known that
     /// leads to this.
