@@ -11,7 +11,7 @@ mod ports;
 
 pub use crew::{Crew, CrewFault};
 pub use device::Device;
-pub use fault::ConsoleFault;
+pub use fault::{ConsoleFault, MAX_LINE_OCTETS, MAX_LINES};
 pub use input::{CHUNK, MAX_INPUT, read_whole};
 pub use output::{error_text, write_whole};
 pub use ports::{Sink, Source};
