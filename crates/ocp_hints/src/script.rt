@@ -8,8 +8,7 @@ use crate::image::{ODD, SLOT_DIGITS};
 use crate::line::{self, Line, MARKS, line_at};
 use crate::tables::{Table, text_on_front, text_on_word};
 use bpf_text::LineFault;
-use ocp_lines::{MAX_LINE_OCTETS, MAX_LINES};
-use ocp_ports::ConsoleFault;
+use ocp_ports::{ConsoleFault, MAX_LINE_OCTETS, MAX_LINES};
 use ocp_profile::Profile;
 use std::alloc::Global;
 

@@ -9,12 +9,6 @@ use pus_fields::MAX_TELECOMMAND_DATA;
 /// and length take four octets before it.
 pub const MAX_OCTETS_LENGTH: usize = MAX_TELECOMMAND_DATA - 4;
 
-/// The most lines of a script.
-pub const MAX_LINES: u32 = 100_000;
-
-/// The most octets of a line, a carriage return included and the newline not.
-pub const MAX_LINE_OCTETS: usize = 40_000;
-
 /// The most instructions of a `step` or a `round` line.
 pub const MAX_STEPS: u32 = 1_000_000;
 

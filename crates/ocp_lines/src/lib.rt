@@ -8,8 +8,8 @@ mod verbs;
 mod words;
 
 pub use command::{
-    Command, Count, Flags, MAX_BUDGET, MAX_LINE_OCTETS, MAX_LINES, MAX_MEMORY_LENGTH,
-    MAX_OCTETS_LENGTH, MAX_STEPS, MAX_TURNS, MAX_WORKERS, Shift,
+    Command, Count, Flags, MAX_BUDGET, MAX_MEMORY_LENGTH, MAX_OCTETS_LENGTH, MAX_STEPS, MAX_TURNS,
+    MAX_WORKERS, Shift,
 };
 pub use help::SCRIPT_HELP;
 pub use reading::read_command;
