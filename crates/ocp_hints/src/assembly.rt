@@ -4,7 +4,7 @@ ghost use Rattle.std.specs.Prelude.{IfSome};
 ghost use Rattle.ocp_hints.specs.Columns.{IsWithin};
 
 use crate::hint::{Hint, Mark, Shown, front_of_word, mark_at};
-use crate::image::{TOO_LONG, sentence_on_load};
+use crate::image::{TOO_LONG, mark_of_fault};
 use crate::line::{self, Line, MARKS, line_at};
 use crate::tables::{Table, text_on_front, text_on_word};
 use bpf_assembler::{AsmFault, Why, assemble};
@@ -130,11 +130,14 @@ fn mark_of_why(line: &Line<'_>, why: Why) -> Option<Mark> {
         Why::Range => return mark_of_range(line),
         Why::DuplicateLabel => (label, b"this label labels another line already"),
         Why::UnknownLabel => (last, b"no line of the text has this label"),
-        Why::Load(fault @ (LoadFault::BadCall(_) | LoadFault::BadTarget(_))) => {
-            (last, sentence_on_load(fault))
+        Why::Load(fault) => {
+            let column = match fault {
+                LoadFault::BadCall(_) | LoadFault::BadTarget(_) => last,
+                LoadFault::Decode(_, _) => line.column(1),
+                _ => line.column(0),
+            };
+            return mark_of_fault(line.alloc, column, &fault);
         }
-        Why::Load(fault @ LoadFault::Decode(_, _)) => (line.column(1), sentence_on_load(fault)),
-        Why::Load(fault) => (line.column(0), sentence_on_load(fault)),
     };
     mark_at(line.alloc, column, sentence)
 }

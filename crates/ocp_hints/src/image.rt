@@ -7,9 +7,9 @@ use crate::hint::{Hint, Mark, front_of, mark_at};
 use crate::tables::{Table, text_on_front};
 use bpf_decode::{DecodeFault, decode_at};
 use bpf_listing::{DisassembleFault, disassemble};
-use ocp_loader::LoadFault;
 use ocp_ports::MAX_INPUT;
 use std::alloc::Global;
+use std::fmt::Display;
 use text_lines::octets_of;
 
 /// The number of digits of a slot.
@@ -28,29 +28,12 @@ static MARKS: Table = b"\t: this is a tab, and digits are in one row
 \x7fELF: this is an ELF file: examples/c/build makes the image of one
 \r: this is a carriage return, and a newline alone may end the digits";
 
-/// What each fault of an image means, in the order of their numbers.
-static LOAD_FAULTS: Table = b"Memory: out of memory
-EmptyCode: a procedure has at least one instruction
-RaggedCode: an image is whole slots of 8 octets
-TooLong: an image has at most 2048 slots, and lddw takes two
-CutWide: the second slot of lddw is missing
-UnknownOpcode: no instruction has the opcode in the first octet
-BadRegister: registers are 0 to 10, in the halves of the second octet
-ReservedField: a field has a value that its instruction does not allow
-WritesFramePointer: r10 is read and never written
-BadCall: engine calls are 1 to 5, and 6 under profile 2
-BadTarget: a jump or a local call ends at an instruction of the image
-FallsOffEnd: the last instruction is exit, ja or ja32";
-
 /// The bits of the immediate number of an instruction.
 const NUMBER: u128 = 0xffff_ffff << 64;
 
-/// What a fault of an image means.
-pub(crate) fn sentence_on_load(fault: LoadFault) -> &'static [u8] {
-    LOAD_FAULTS
-        .split(|octet| *octet == b'\n')
-        .nth(usize::from(fault.number()))
-        .unwrap_or(&[])
+/// A mark with what a fault of an image means; None if memory is refused.
+pub(crate) fn mark_of_fault<F: Display>(alloc: Global, column: usize, fault: &F) -> Option<Mark> {
+    Some((column, fault.to_string(alloc).ok()?))
 }
 
 /// What was unexpected in digits that spell no octets: the first octet that is no digit, or what no
@@ -111,22 +94,23 @@ pub fn hint_on_image<'a>(alloc: Global, text: &'a [u8]) -> Option<Hint<'a>>
     let Some(image) = octets_of(&mut room, digits).ok()? else {
         return Some(Hint::new(None, digits, mark_of_digits(alloc, digits)?));
     };
-    let (slot, column, sentence): (_, _, &[u8]) = match disassemble(image, &mut Vec::new(alloc)) {
+    let (slot, mark) = match disassemble(image, &mut Vec::new(alloc)) {
         Ok(()) | Err(DisassembleFault::Memory) => return None,
         Err(DisassembleFault::Ragged) => {
             let sentence = b"an image is whole slots of 16 digits";
-            (image.len() / 8, SLOT_DIGITS, sentence)
+            (image.len() / 8, mark_at(alloc, SLOT_DIGITS, sentence)?)
         }
         Err(DisassembleFault::Decode(fault, slot)) => {
             let code = image.get(slot.saturating_mul(8)..).unwrap_or(&[]);
-            let sentence = sentence_on_load(LoadFault::Decode(fault, 0));
-            (slot, column_of_fault(code, fault), sentence)
+            (
+                slot,
+                mark_of_fault(alloc, column_of_fault(code, fault), &fault)?,
+            )
         }
     };
     let begin = slot.saturating_mul(SLOT_DIGITS);
     let rest = digits.get(begin..).unwrap_or(&[]);
     let slots = if rest.starts_with(b"18") { 2 } else { 1 };
     let line = front_of(rest, slots * SLOT_DIGITS);
-    let mark = mark_at(alloc, column, sentence)?;
     Some(Hint::new(Some(("slot", slot as u64)), line, mark))
 }
