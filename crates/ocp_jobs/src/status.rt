@@ -29,10 +29,10 @@ pub(crate) fn status_of<E: Eprint>(rt: &E, answer: Result<bool, ConsoleFault>) -
 {
     match answer {
         Ok(true) => ExitCode::SUCCESS,
-        Err(ConsoleFault::Read) => machine_fault(rt, "Read"),
-        Err(ConsoleFault::Write) => machine_fault(rt, "Write"),
-        Err(ConsoleFault::Memory) => machine_fault(rt, "Memory"),
-        Err(ConsoleFault::Workers) => machine_fault(rt, "Workers"),
-        Ok(false) | Err(_) => ExitCode::from(INPUT_FAULT),
+        Ok(false)
+        | Err(
+            ConsoleFault::TooManyLines | ConsoleFault::LineTooLong(_) | ConsoleFault::Syntax(_),
+        ) => ExitCode::from(INPUT_FAULT),
+        Err(fault) => machine_fault(rt, fault.name()),
     }
 }
