@@ -1,10 +1,11 @@
 -- `Later::lent` at a call. Assumes `Logic`.
+--     args, self                                 what allocate and deallocate are called with
 --     Lends, at_lent, lent_goes, lent_Gives      its contract, what it is handed, and the handle that it shows, if there is one
 use mathlib.Core.Path.{◌≡◌, refl, ap, ◌∙◌}
 use mathlib.Core.List.{List, [], ◌∷◌, ◌++◌}
 use lib.Dec.{T, lit<}
 use seplogic.Ra.Ura.{Ura}
-use mir.Syntax.{Callee, a_type, named}
+use mir.Syntax.{Args, Callee, a_type, dcons, dnil, named}
 use mir.Val.{Val, vptr, of_list, has_ty, WT}
 use base.Logic.{SProp, ent, sep, ex, guard, emp, id⊢}
 use base.Fml.{Lft, Share, Fml, ftrue, fsep}
@@ -17,8 +18,10 @@ use types.Kit.{‵, raw, ◌⊛◌, some, later, given, ◌$◌, ◌∵◌, !, q
 use types.Match.{live}
 use denote.RattleType.{RattleType}
 use denote.Memory.{hidden_shr}
-use denote.Param.{layout, layouts, param}
+use denote.Builtin.{RefOf}
+use denote.Param.{bounded, layout, layouts, param}
 use denote.Ref.{Bor, ShrRef, shr_vals}
+use denote.Signature.{Slot, plain}
 use denote.Steps.{only, nothing}
 use denote.Triple.Statement.{Contract}
 use denote.Triple.Spec.{triple_of}
@@ -37,6 +40,13 @@ shown_val None = live 0 (of_list [])
 shown_val (Some b) = live 1 (of_list (vptr b.ref_ptr.0 b.ref_ptr.1 ∷ []))
 
 module _ (Z : Al) where
+  -- what a call of the allocator is made with, and the handle that it begins with
+  abbrev pub args : Args
+  args = bounded (a_type ∷ []) (Z.row, tt) (dcons Z.d (dcons Z.drops dnil))
+
+  abbrev pub self : Slot 2
+  self = RefOf (0 ∷ []) tt (plain (λ _. L.the_row (param 0 Z.row))) (λ _. tt)
+
   abbrev pub lent_key : Callee
   lent_key = key.name (layouts (a_type ∷ []) (Z.row, tt))
 
