@@ -1,19 +1,17 @@
 //! Another board behind the lock: a call under the lock returns the board's own answer, and what a
 //! turn answers and tells its gate depends on it.
 
-ghost use Rattle.ocp_seats.specs.Seats.{Opens};
-
-use crate::packets::{STATUS, on_loops, with_loops};
+use crate::packets::STATUS;
+use crate::scenes::{Scene, Stage, play};
 use ocp_slices::{
-    Board, Book, CommitOutcome, DebugFault, Engine, EngineFault, Entry, Gate, Input, Naming,
-    PutFault, Seat, SeatFault, SharedEngine, Slice, StepOutcome, TakeFault, Ticket, Turn, Work,
+    Board, Book, CommitOutcome, DebugFault, EngineFault, Entry, Gate, Input, Naming, PutFault,
+    Seat, SeatFault, SharedEngine, Slice, StepOutcome, TakeFault, Ticket, Turn, Work,
 };
 use std::alloc::Global;
 use std::cell::Cell;
-use std::marker::Brand;
 use std::sync::Wait;
 use std::sync::atomic::{AtomicU64, Ordering};
-use std::sync::ledger::Blank;
+use std::thread::Threads;
 
 // What a board does with a turn.
 #[derive(Clone, Copy)]
@@ -105,25 +103,11 @@ impl<L: Naming> Board<L> for Counting<'_, L> {
 
 #[test]
 fn answers_are_the_boards(rt: HostRuntime) {
-    assert!(rt; are_the_boards(&rt, rt.alloc()));
+    assert!(rt; play(&rt, rt.alloc(), 100, 1, Scene::AskBoard) == Some(true));
 }
 
-// Whether the answers are those of a board over a new engine.
-fn are_the_boards<R: Wait>(rt: &R, alloc: Global) -> bool {
-    on_loops!(rt, alloc, 100, 1, through, false)
-}
-
-// Whether each call through the lock is one call of the board, and each third event is refused.
-fn through<L: Naming, R: Wait>(rt: &R, alloc: Global, engine: Engine, blank: Blank) -> bool
-    requires opens { Opens blank.name blank.parts L.name L.parts L.room L.log engine }
-{
-    let taken = AtomicU64::new(0);
-    let board = Counting::new(Book::<L>::new(engine, blank), &[], &taken);
-    let shared = SharedEngine::over(board);
-    if !is_answered(rt, alloc, &shared) {
-        return false;
-    }
-    let board = shared.into_inner();
+// Whether a board has counted these calls, and what they left.
+fn is_counted<L: Naming>(board: &Counting<L>) -> bool {
     let engine = board.book.engine();
     board.calls == 20
         && board.asked == 16
@@ -131,7 +115,18 @@ fn through<L: Naming, R: Wait>(rt: &R, alloc: Global, engine: Engine, blank: Bla
         && engine.pool_word(3) == Some(7)
 }
 
-// All calls, by a first seat.
+impl<L: Naming + Send + Sync, R: Threads + Wait + Sync> Stage<'_, L, R> {
+    // Each call through the lock is one call of the board, and each third event is refused.
+    pub(crate) fn ask_board(self) -> Option<bool> {
+        let Stage { rt, alloc, book } = self;
+        let taken = AtomicU64::new(0);
+        let shared = SharedEngine::over(Counting::new(book, &[], &taken));
+        let is_answered = is_answered(rt, alloc, &shared);
+        Some(is_answered && is_counted(&shared.into_inner()))
+    }
+}
+
+// All calls, by a first seat: a work of ten instructions, and then events.
 fn is_answered<L: Naming, B: Board<L>, R: Wait>(
     rt: &R,
     alloc: Global,
@@ -140,24 +135,14 @@ fn is_answered<L: Naming, B: Board<L>, R: Wait>(
     let Ok(mut seat) = shared.seat(rt, alloc) else {
         return false;
     };
-    is_worked(rt, alloc, shared, &mut seat)
+    let Ok(ticket) = shared.take(rt, alloc) else {
+        return false;
+    };
+    shared.commit(rt, &mut seat, ticket.run(10)) == CommitOutcome::Committed(10)
         && is_requested(rt, alloc, shared, &mut seat)
         && is_stepped(rt, shared, &mut seat)
         && is_debugged(rt, shared, &mut seat)
         && is_put(rt, shared, &mut seat)
-}
-
-// A work of ten instructions.
-fn is_worked<L: Naming, B: Board<L>, R: Wait>(
-    rt: &R,
-    alloc: Global,
-    shared: &SharedEngine<L, B>,
-    seat: &mut Seat<L>,
-) -> bool {
-    match shared.take(rt, alloc) {
-        Ok(ticket) => { shared.commit(rt, seat, ticket.run(10)) == CommitOutcome::Committed(10) }
-        Err(_) => false,
-    }
 }
 
 // The first two events: a request, and a drain of nothing.
@@ -326,23 +311,14 @@ fn is_receipted<L: Naming>(seat: &Seat<L>) -> bool {
     true
 }
 
-#[test]
-fn turns_answer_and_tell_their_gate(rt: HostRuntime) {
-    assert!(rt; are_told(&rt, rt.alloc()));
-}
-
-// Whether the turns on a new engine answer this, and their gates hear this.
-fn are_told<R: Wait>(rt: &R, alloc: Global) -> bool {
-    on_loops!(rt, alloc, 100, 2, by_script, false)
-}
-
-// The turns of seat 2 over a board with this script.
-fn by_script<L: Naming, R: Wait>(rt: &R, alloc: Global, engine: Engine, blank: Blank) -> bool
-    requires opens { Opens blank.name blank.parts L.name L.parts L.room L.log engine }
-{
-    let taken = AtomicU64::new(0);
-    let board = Counting::new(Book::<L>::new(engine, blank), &MEETS, &taken);
-    are_met(rt, alloc, &SharedEngine::over(board))
+impl<L: Naming + Send + Sync, R: Threads + Wait + Sync> Stage<'_, L, R> {
+    // The turns of seat 2 over a board with this script answer this, and their gates hear this.
+    pub(crate) fn turn_by_script(self) -> Option<bool> {
+        let Stage { rt, alloc, book } = self;
+        let taken = AtomicU64::new(0);
+        let shared = SharedEngine::over(Counting::new(book, &MEETS, &taken));
+        Some(are_met(rt, alloc, &shared))
+    }
 }
 
 // The turns of the second of two seats, and its receipts.
@@ -376,4 +352,9 @@ fn is_met<L: Naming, B: Board<L>, R: Wait>(
         heard: Cell::new(Heard::Nothing),
     };
     shared.turn(rt, alloc, seat, budget, &gate) == wanted && gate.heard.get() == heard
+}
+
+#[test]
+fn turns_answer_and_tell_their_gate(rt: HostRuntime) {
+    assert!(rt; play(&rt, rt.alloc(), 100, 2, Scene::TurnByScript) == Some(true));
 }

@@ -1,20 +1,16 @@
 //! Workers: one thread for each seat.
 
 ghost use Rattle.std.specs.Prelude.{◌≤◌};
-ghost use Rattle.ocp_seats.specs.Seats.{Opens};
 
-use crate::packets::{
-    STATUS, activate_loop, is_done, is_taken, on_loops, suspend_loop, with_loops,
-};
+use crate::packets::{STATUS, activate_loop, is_done, is_taken, suspend_loop, with_loops};
+use crate::scenes::{Scene, Stage, play};
 use ocp_core::replay_one;
 use ocp_slices::{
     CommitOutcome, Engine, Gate, Naming, Open, Seat, SharedEngine, StepOutcome, work,
 };
 use std::alloc::Global;
-use std::marker::Brand;
 use std::sync::Wait;
 use std::sync::atomic::{AtomicU64, Ordering};
-use std::sync::ledger::Blank;
 use std::thread;
 use std::thread::Threads;
 
@@ -171,35 +167,25 @@ fn each_seat_has_a_thread_of_its_own(rt: HostRuntime) {
 
 #[test]
 fn sixteen_workers_with_all_calls_between(rt: HostRuntime) {
-    assert!(rt; are_mixed(&rt, rt.alloc()));
+    assert!(rt; play(&rt, rt.alloc(), 4_000, 16, Scene::MixCalls) == Some(true));
 }
 
-// Whether sixteen seats leave over 500 entries, and the machines that these have.
-fn are_mixed<R: Threads + Wait + Sync>(rt: &R, alloc: Global) -> bool {
-    match on_loops!(rt, alloc, 4_000, 16, mixed, None) {
-        Some(engine) => engine.journal().len() > 500 && are_shown(alloc, &engine),
-        None => false,
+impl<L: Naming + Send + Sync, R: Threads + Wait + Sync> Stage<'_, L, R> {
+    // Sixteen seats, each with a thread that makes turns and all other calls between them; then all
+    // are closed. They leave over 500 entries, and the machines that these have.
+    pub(crate) fn mix_calls(self) -> Option<bool> {
+        let Stage { rt, alloc, book } = self;
+        let shared = SharedEngine::over(book);
+        let mut seats = seats_of(rt, alloc, &shared, 16)?;
+        thread::for_each_mut(
+            rt,
+            seats.as_mut_slice(),
+            16,
+            &|_, seat| calls(rt, alloc, &shared, seat),
+        );
+        let engine = shared.close(seats).ok()?;
+        Some(engine.journal().len() > 500 && are_shown(alloc, &engine))
     }
-}
-
-// Sixteen seats, each with a thread that makes turns and all other calls between them; then all are closed.
-fn mixed<L: Naming + Send + Sync, R: Threads + Wait + Sync>(
-    rt: &R,
-    alloc: Global,
-    engine: Engine,
-    blank: Blank,
-) -> Option<Engine>
-    requires opens { Opens blank.name blank.parts L.name L.parts L.room L.log engine }
-{
-    let shared = SharedEngine::<L>::new(engine, blank);
-    let mut seats = seats_of(rt, alloc, &shared, 16)?;
-    thread::for_each_mut(
-        rt,
-        seats.as_mut_slice(),
-        16,
-        &|_, seat| calls(rt, alloc, &shared, seat),
-    );
-    shared.close(seats).ok()
 }
 
 // `count` seats.

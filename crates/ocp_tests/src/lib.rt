@@ -17,4 +17,6 @@ mod packets;
 #[cfg(test)]
 mod pairs;
 #[cfg(test)]
+mod scenes;
+#[cfg(test)]
 mod words;

@@ -103,21 +103,6 @@ pub(crate) fn with_loops(alloc: Global, capacity: u32, count: u8) -> Option<Engi
     takes_loops(alloc, &mut engine, count).then_some(engine)
 }
 
-// What a function answers under a new brand, on a new engine with loops; `$none` if there is none.
-macro_rules! on_loops {
-    ($rt:expr, $alloc:expr, $capacity:expr, $count:expr, $run:ident, $none:expr) => {
-        match with_loops($alloc, $capacity, $count) {
-            Some(engine) => {
-                let _length = engine.journal().len();
-                $run::<Brand, _>($rt, $alloc, engine, Blank::new(65))
-            }
-            None => $none,
-        }
-    };
-}
-
-pub(crate) use on_loops;
-
 // Whether a procedure is shown as a loop at its end.
 pub(crate) fn is_done(view: Option<View>) -> bool {
     match view {

@@ -1,18 +1,15 @@
 //! Two threads of a caller, each with a seat.
 
-ghost use Rattle.ocp_seats.specs.Seats.{Opens};
-
 use crate::boards::Counting;
-use crate::packets::{STATUS, activate_loop, is_taken, load_long, on_loops, takes, with_loops};
+use crate::packets::{STATUS, activate_loop, is_taken, load_long, takes, with_loops};
+use crate::scenes::{Scene, Stage, play, play_on};
 use ocp_slices::{
-    Board, Book, CloseFault, CommitOutcome, Engine, Gate, Naming, Seat, SharedEngine, StepOutcome,
+    Board, CloseFault, CommitOutcome, Engine, Gate, Naming, Seat, SharedEngine, StepOutcome,
     StillShared, Turn,
 };
 use std::alloc::Global;
-use std::marker::Brand;
 use std::sync::Wait;
 use std::sync::atomic::{AtomicU64, Ordering};
-use std::sync::ledger::Blank;
 use std::thread;
 use std::thread::Threads;
 
@@ -20,15 +17,7 @@ const LIMIT: u32 = 1_000_000_000;
 
 #[test]
 fn two_threads_wait_for_each_other(rt: HostRuntime) {
-    assert!(rt; are_waited_for(&rt, rt.alloc()));
-}
-
-// Whether two threads step a loop, each while the other one waits for it.
-fn are_waited_for<R: Threads + Wait + Sync>(rt: &R, alloc: Global) -> bool {
-    match on_loops!(rt, alloc, 100, 1, both, None) {
-        Some(engine) => engine.events() == 5,
-        None => false,
-    }
+    assert!(rt; play(&rt, rt.alloc(), 100, 1, Scene::StepBoth) == Some(true));
 }
 
 // One step, and then a wait until the other thread's first step was answered.
@@ -49,24 +38,17 @@ fn step_and_wait<L: Naming, R: Wait>(
     false
 }
 
-// Each thread's first step is answered while the other one waits for it; one seat also makes a request.
-fn both<L: Naming + Send + Sync, R: Threads + Wait + Sync>(
-    rt: &R,
-    alloc: Global,
-    engine: Engine,
-    blank: Blank,
-) -> Option<Engine>
-    requires opens { Opens blank.name blank.parts L.name L.parts L.room L.log engine }
-{
-    let shared = SharedEngine::<L>::new(engine, blank);
-    let mut one = shared.seat(rt, alloc).ok()?;
-    let mut two = shared.seat(rt, alloc).ok()?;
-    if step_at_once(rt, &shared, &mut one, &mut two)
-        && is_taken(rt, alloc, &shared, &mut two, &STATUS)
-    {
-        closed(alloc, shared, one, two)
-    } else {
-        None
+impl<L: Naming + Send + Sync, R: Threads + Wait + Sync> Stage<'_, L, R> {
+    // Each thread's first step is answered while the other one waits for it; one seat also makes a
+    // request.
+    pub(crate) fn step_both(self) -> Option<bool> {
+        let Stage { rt, alloc, book } = self;
+        let shared = SharedEngine::over(book);
+        let mut one = shared.seat(rt, alloc).ok()?;
+        let mut two = shared.seat(rt, alloc).ok()?;
+        let is_done = step_at_once(rt, &shared, &mut one, &mut two)
+            && is_taken(rt, alloc, &shared, &mut two, &STATUS);
+        Some(is_done && closed(alloc, shared, one, two)?.events() == 5)
     }
 }
 
@@ -192,8 +174,7 @@ fn is_met<R: Threads + Wait + Sync>(rt: &R, alloc: Global, budget: u32) -> Optio
     if !takes(alloc, &mut engine, &load_long()) || !takes(alloc, &mut engine, &activate_loop(1)) {
         return None;
     }
-    let _length = engine.journal().len();
-    meanwhile::<Brand, _>(rt, alloc, engine, Blank::new(65), budget)
+    play_on(rt, alloc, engine, Scene::RunMeanwhile(budget))
 }
 
 // Turns of seat 2, once a ticket was taken.
@@ -230,30 +211,25 @@ fn at_once<L: Naming + Send + Sync, B: Board<L> + Send, R: Threads + Wait + Sync
     turn
 }
 
-// Whether all turns of seat 2 came after seat 1 took its ticket, and were answered before it had run; seat 1's work is stale then.
-fn meanwhile<L: Naming + Send + Sync, R: Threads + Wait + Sync>(
-    rt: &R,
-    alloc: Global,
-    engine: Engine,
-    blank: Blank,
-    budget: u32,
-) -> Option<bool>
-    requires opens { Opens blank.name blank.parts L.name L.parts L.room L.log engine }
-{
-    let watch = Watch {
-        taken: AtomicU64::new(0),
-        answered: AtomicU64::new(0),
-        met: AtomicU64::new(0),
-        over: AtomicU64::new(0),
-    };
-    let board = Counting::new(Book::<L>::new(engine, blank), &[], &watch.taken);
-    let shared = SharedEngine::over(board);
-    let mut one = shared.seat(rt, alloc).ok()?;
-    let mut two = shared.seat(rt, alloc).ok()?;
-    let turn = at_once(rt, alloc, &shared, &mut one, &mut two, budget, &watch);
-    let met = watch.met.load(Ordering::SeqCst) == u64::from(TURNS);
-    if met && turn != Turn::Stale {
-        return None;
+impl<L: Naming + Send + Sync, R: Threads + Wait + Sync> Stage<'_, L, R> {
+    // All turns of seat 2 come after seat 1 took its ticket, and are answered before it has run;
+    // none if seat 1's work is not stale then.
+    pub(crate) fn run_meanwhile(self, budget: u32) -> Option<bool> {
+        let Stage { rt, alloc, book } = self;
+        let watch = Watch {
+            taken: AtomicU64::new(0),
+            answered: AtomicU64::new(0),
+            met: AtomicU64::new(0),
+            over: AtomicU64::new(0),
+        };
+        let shared = SharedEngine::over(Counting::new(book, &[], &watch.taken));
+        let mut one = shared.seat(rt, alloc).ok()?;
+        let mut two = shared.seat(rt, alloc).ok()?;
+        let turn = at_once(rt, alloc, &shared, &mut one, &mut two, budget, &watch);
+        let met = watch.met.load(Ordering::SeqCst) == u64::from(TURNS);
+        if met && turn != Turn::Stale {
+            return None;
+        }
+        Some(met)
     }
-    Some(met)
 }

@@ -1,15 +1,11 @@
 //! Seats that write pool words, each in a thread of its own.
 
-ghost use Rattle.ocp_seats.specs.Seats.{Opens};
-
 use crate::crews::seats_of;
-use crate::packets::{on_loops, with_loops};
+use crate::scenes::{Scene, Stage, play};
 use ocp_slices::{Engine, Entry, Naming, PutFault, Seat, SharedEngine, StepOutcome};
 use std::alloc::Global;
-use std::marker::Brand;
 use std::sync::Wait;
 use std::sync::atomic::{AtomicU64, Ordering};
-use std::sync::ledger::Blank;
 use std::thread;
 use std::thread::Threads;
 
@@ -185,47 +181,35 @@ fn are_kept(engine: &Engine) -> bool {
     journal.len() == 52 && engine.events() == 196
 }
 
-// The engine after the rounds of four seats, each in a thread of its own, and after what is refused then.
-fn written<L: Naming + Send + Sync, R: Threads + Wait + Sync>(
-    rt: &R,
-    alloc: Global,
-    engine: Engine,
-    blank: Blank,
-) -> Option<Engine>
-    requires opens { Opens blank.name blank.parts L.name L.parts L.room L.log engine }
-{
-    let shared = SharedEngine::<L>::new(engine, blank);
-    let mut seats = seats_of(rt, alloc, &shared, SEATS)?;
-    let start = Start {
-        begun: AtomicU64::new(0),
-        missed: AtomicU64::new(0),
-    };
-    thread::for_each_mut(
-        rt,
-        seats.as_mut_slice(),
-        4,
-        &|_, seat| rounds(rt, &shared, seat, &start),
-    );
-    for seat in seats.as_mut_slice() {
-        if !is_full(rt, &shared, seat) {
-            start.miss();
+impl<L: Naming + Send + Sync, R: Threads + Wait + Sync> Stage<'_, L, R> {
+    // The rounds of four seats, each in a thread of its own, and what is refused then. What they
+    // write at once is kept in each seat's order, and stays in the pool.
+    pub(crate) fn write_words(self) -> Option<bool> {
+        let Stage { rt, alloc, book } = self;
+        let shared = SharedEngine::over(book);
+        let mut seats = seats_of(rt, alloc, &shared, SEATS)?;
+        let start = Start {
+            begun: AtomicU64::new(0),
+            missed: AtomicU64::new(0),
+        };
+        thread::for_each_mut(
+            rt,
+            seats.as_mut_slice(),
+            4,
+            &|_, seat| rounds(rt, &shared, seat, &start),
+        );
+        for seat in seats.as_mut_slice() {
+            if !is_full(rt, &shared, seat) {
+                start.miss();
+            }
         }
-    }
-    if start.missed.load(Ordering::SeqCst) != 0 {
-        return None;
-    }
-    shared.close(seats).ok()
-}
-
-// Whether what four seats write at once is kept in each seat's order, and stays in the pool.
-fn are_written<R: Threads + Wait + Sync>(rt: &R, alloc: Global) -> bool {
-    match on_loops!(rt, alloc, CAPACITY, 2, written, None) {
-        Some(engine) => are_kept(&engine) && are_last(&engine),
-        None => false,
+        let engine = shared.close(seats).ok()?;
+        let missed = start.missed.load(Ordering::SeqCst);
+        Some(missed == 0 && are_kept(&engine) && are_last(&engine))
     }
 }
 
 #[test]
 fn seats_write_words_at_once(rt: HostRuntime) {
-    assert!(rt; are_written(&rt, rt.alloc()));
+    assert!(rt; play(&rt, rt.alloc(), CAPACITY, 2, Scene::WriteWords) == Some(true));
 }
