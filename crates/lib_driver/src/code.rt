@@ -15,18 +15,18 @@ const SLOT: usize = 8;
 
 /// The answer of a call.
 pub(crate) fn answer(alloc: Global, words: &[&str]) -> Answer {
-    table! { alloc, words;
-        "bpf_canonical.read_mnemonic" text: octets => {
+    calls! { alloc, words;
+        "bpf_canonical.read_mnemonic" text: octets -> "its kind" => {
             text_of(alloc, mnemonic_name(some!(alloc, read_mnemonic(&text))))
         };
-        "bpf_decode.decode_at" image: octets slot: number => decode(alloc, &image, slot);
-        "bpf_decode.encode" image: octets => spell(alloc, &image);
-        "bpf_listing.disassemble" before image: octets => {
+        "bpf_decode.decode_at" image: octets slot: number -> "instruction, as Rust's `Debug` shows it" => decode(alloc, &image, slot);
+        "bpf_decode.encode" image: octets -> "the octets of its first instruction" => spell(alloc, &image);
+        "bpf_listing.disassemble" before image: octets -> "text" => {
             append!(alloc, before, Text, out => disassemble(&image, out))
         };
-        "bpf_listing.read_line" text: octets => read_canonical(alloc, "-", &text);
-        "bpf_listing.read_line" before text: octets => read_canonical(alloc, before, &text);
-        "bpf_text.read_line" text: octets => read_line(alloc, &text);
+        "bpf_listing.read_line" text: octets -> "the canonical text of what it says" => read_canonical(alloc, "-", &text);
+        "bpf_listing.read_line" before text: octets -> "the canonical text of what it says" => read_canonical(alloc, before, &text);
+        "bpf_text.read_line" text: octets -> "label, octets of the instruction" => read_line(alloc, &text);
     }
 }
 

@@ -5,8 +5,9 @@ use ocp_words::{Job, Settings, WordsFault, read_words};
 
 /// The answer of a call.
 pub(crate) fn answer(alloc: Global, words: &[&str]) -> Answer {
-    table! { alloc, words;
-        "ocp_words.read_words" [words] => read(alloc, words);
+    calls! { alloc, words;
+        "ocp_words.read_words" [words] -> "`Run` with the profile and three numbers, `Assemble` with the profile, "
+                "`Check` with the profile and the number of words, `List` or `Usage`" => read(alloc, words);
     }
 }
 

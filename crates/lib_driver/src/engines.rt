@@ -16,22 +16,37 @@ pub(crate) fn answer<T: Asked>(
     alloc: Global,
     words: &[&str],
 ) -> Answer {
-    table! { alloc, words;
-        "ocp_core.slice" | "ocp_seats.slice" seat id: number budget: budget_of => {
+    calls! { alloc, words;
+        "ocp_core.slice" | "ocp_seats.slice" seat id: number budget: budget_of -> "how many, and the last outcome" => {
             show_slice(alloc, to.ask_slice(by, id, budget))
         };
-        "ocp_core.commit" | "ocp_seats.commit" seat work: number => {
+        "ocp_core.commit" | "ocp_seats.commit" seat work: number -> "outcome" => {
             show_commit(alloc, to.ask_commit(by, runs.work(work)?))
         };
-        "ocp_core.request" | "ocp_core.drain" | "ocp_core.step" | "ocp_core.put_word"
-                | "ocp_core.set_break" | "ocp_core.clear_break" | "ocp_core.trace"
-                | "ocp_seats.request" | "ocp_seats.drain" | "ocp_seats.step" | "ocp_seats.put_word"
-                | "ocp_seats.set_break" | "ocp_seats.clear_break" | "ocp_seats.trace"
-                [arguments] => {
-            let octets = event_octets(alloc, words)?;
-            apply_event(to, by, alloc, event_of(words, &octets)?).show(alloc)
+        "ocp_core.request" | "ocp_seats.request" seat time packet -> "packets; or the fault" => {
+            apply(to, by, alloc, words)
+        };
+        "ocp_core.drain" | "ocp_seats.drain" seat time -> "packets; or the fault" => {
+            apply(to, by, alloc, words)
+        };
+        "ocp_core.step" | "ocp_seats.step" seat id -> "outcome" => apply(to, by, alloc, words);
+        "ocp_core.put_word" | "ocp_seats.put_word" seat index value -> "`Ok`, or why not" => {
+            apply(to, by, alloc, words)
+        };
+        "ocp_core.set_break" | "ocp_core.clear_break" | "ocp_seats.set_break"
+                | "ocp_seats.clear_break" seat id slot -> "`Ok`, or why not" => {
+            apply(to, by, alloc, words)
+        };
+        "ocp_core.trace" | "ocp_seats.trace" seat id on -> "`Ok`, or why not" => {
+            apply(to, by, alloc, words)
         };
     }
+}
+
+/// Applies the event in words, and shows what it is answered.
+fn apply<T: Asked>(to: &mut T, by: &mut T::By, alloc: Global, words: &[&str]) -> Answer {
+    let octets = event_octets(alloc, words)?;
+    apply_event(to, by, alloc, event_of(words, &octets)?).show(alloc)
 }
 
 /// The answer of a call of an engine.
@@ -41,9 +56,9 @@ pub(crate) fn engine_answer(
     alloc: Global,
     words: &[&str],
 ) -> Answer {
-    table! { alloc, words;
-        "ocp_core.run" [events] => run(engine, alloc, events);
-        "ocp_core.round" seat: number id: number budget: budget_of => {
+    calls! { alloc, words;
+        "ocp_core.run" [events] -> "`Ok:`, or the refusal and the index of its event, and the answers" => run(engine, alloc, events);
+        "ocp_core.round" seat: number id: number budget: budget_of -> "how many, the last outcome, and the step that ended, if one did" => {
             show_round(alloc, engine.round(seat, id, budget))
         };
         else match *words {

@@ -9,15 +9,15 @@ use verification::{Notice, Outcome, completion, notices};
 
 /// The answer of a call.
 pub(crate) fn answer(alloc: Global, words: &[&str]) -> Answer {
-    table! { alloc, words;
-        "obcp_types.acceptance_code" failure: acceptance_of => text_of(alloc, failure.code());
-        "obcp_types.start_code" [failure] => text_of(alloc, start_of(failure)?.code());
-        "obcp_types.completion_code" failure: completion_of => text_of(alloc, failure.code());
-        "verification.notices" ack: ack_of [outcome] => {
+    calls! { alloc, words;
+        "obcp_types.acceptance_code" failure: acceptance_of -> "its code" => text_of(alloc, failure.code());
+        "obcp_types.start_code" [failure] -> "its code" => text_of(alloc, start_of(failure)?.code());
+        "obcp_types.completion_code" failure: completion_of -> "its code" => text_of(alloc, failure.code());
+        "verification.notices" ack: ack_of [outcome] -> "reports, with commas between them" => {
             show_all(alloc, notices(ack, &outcome_of(outcome)?).as_slice())
         };
-        "verification.completion" ack: ack_of => some!(alloc, completion(ack, None)).show(alloc);
-        "verification.completion" ack: ack_of failure: completion_of => {
+        "verification.completion" ack: ack_of -> "the report" => some!(alloc, completion(ack, None)).show(alloc);
+        "verification.completion" ack: ack_of failure: completion_of -> "the report" => {
             some!(alloc, completion(ack, Some(failure))).show(alloc)
         };
     }

@@ -9,17 +9,17 @@ use space_packet::{Apid, IDLE_APID};
 
 /// The answer of a call.
 pub(crate) fn answer(alloc: Global, words: &[&str]) -> Answer {
-    table! { alloc, words;
-        "pus_fields.crc16" data: octets => show_control(alloc, crc16(&data));
-        "pus_fields.read_tc" apid: apid_of packet: octets => read_telecommand(alloc, apid, &packet);
+    calls! { alloc, words;
+        "pus_fields.crc16" data: octets -> "four digits" => show_control(alloc, crc16(&data));
+        "pus_fields.read_tc" apid: apid_of packet: octets -> "first four octets, application process, count, flags, service, subtype, source, data" => read_telecommand(alloc, apid, &packet);
         "pus_fields.write_tc" before apid: apid_of count: count_of ack: ack_of
-                service: number subtype: number source: number data: octets => {
+                service: number subtype: number source: number data: octets -> "octets" => {
             let tc = some!(alloc, Tc::new(apid, count, ack, service, subtype, source, &data));
             append!(alloc, before, Octets, out => write_tc(&tc, out))
         };
-        "pus_fields.read_tm" packet: octets => read_telemetry(alloc, &packet);
+        "pus_fields.read_tm" packet: octets -> "application process, count, service, subtype, destination, time, data" => read_telemetry(alloc, &packet);
         "pus_fields.write_tm" before apid: apid_of count: count_of
-                service: number subtype: number destination: number time: number data: octets => {
+                service: number subtype: number destination: number time: number data: octets -> "octets" => {
             let payload = data.as_slice();
             let tm = Tm { apid, count, service, subtype, destination, time, payload };
             append!(alloc, before, Octets, out => write_tm(&tm, out))

@@ -8,22 +8,22 @@ use ocp_profile::Profile;
 
 /// The answer of a call.
 pub(crate) fn answer(alloc: Global, words: &[&str]) -> Answer {
-    table! { alloc, words;
-        "bpf_assembler.assemble" profile: profile text: octets => image_of(alloc, profile, &text);
-        "bpf_assembler.write_canonical" profile: profile before text: octets => {
+    calls! { alloc, words;
+        "bpf_assembler.assemble" profile: profile text: octets -> "octets; or the line, and the fault" => image_of(alloc, profile, &text);
+        "bpf_assembler.write_canonical" profile: profile before text: octets -> "text; or the line, and the fault" => {
             canonical(alloc, profile, before, &text)
         };
-        "ocp_loader.load" profile: profile image: octets => show_load(alloc, profile, &image);
-        "ocp_loader.slots" profile: profile image: octets => {
+        "ocp_loader.load" profile: profile image: octets -> "slots, octets; or the number of the fault, and its slot" => show_load(alloc, profile, &image);
+        "ocp_loader.slots" profile: profile image: octets -> "number" => {
             text_of(alloc, program_of(alloc, profile, &image)?.slots())
         };
-        "ocp_loader.listing" profile: profile before image: octets => {
+        "ocp_loader.listing" profile: profile before image: octets -> "text" => {
             listing(alloc, before, &program_of(alloc, profile, &image)?)
         };
-        "ocp_loader.line_at" profile: profile image: octets slot: number => {
+        "ocp_loader.line_at" profile: profile image: octets slot: number -> "instruction" => {
             line_at(alloc, &program_of(alloc, profile, &image)?, slot)
         };
-        "ocp_loader.is_same" profile: profile image: octets other: octets => {
+        "ocp_loader.is_same" profile: profile image: octets other: octets -> "flag" => {
             let (image, other) =
                 (program_of(alloc, profile, &image)?, program_of(alloc, profile, &other)?);
             text_of(alloc, image.is_same(&other))

@@ -9,62 +9,70 @@ use driver_lines::*;
 use ocp_regions::{ARGUMENT_OCTETS, Regions};
 use std::alloc::AllocError;
 
+/// A table of calls, the first of which make, copy, compare and read a memory or a machine.
+macro_rules! made {
+    ($alloc:expr, $words:expr, $made:expr, $type:ident;
+            $new:literal, $copy:literal, $same:literal, $octets:literal; $($rows:tt)+) => {
+        calls! { $alloc, $words;
+            $new profile: profile -> "the number of the one made, from 0 on" => {
+                add($alloc, $made, $type::new($alloc, profile))
+            };
+            $copy one: number -> "the number of the copy" => {
+                let copy = one_of($made, one)?.copy($alloc);
+                add($alloc, $made, copy)
+            };
+            $same one: number other: number -> "flag" => {
+                text_of($alloc, one_of($made, one)?.is_same(one_of($made, other)?))
+            };
+            $octets one: number address: number before -> "as many octets" => {
+                append!($alloc, before, Octets, out => one_of($made, one)?.octets(address, out))
+            };
+            $($rows)+
+        }
+    };
+}
+
 /// The answer of a call of ocp_regions.
 pub(crate) fn memory_answer(made: &mut Vec<Regions>, alloc: Global, words: &[&str]) -> Answer {
-    table! { alloc, words;
-        "ocp_regions.new" profile: profile => add(alloc, made, Regions::new(alloc, profile));
-        "ocp_regions.copy" memory: number => {
-            let copy = one_of(made, memory)?.copy(alloc);
-            add(alloc, made, copy)
-        };
-        "ocp_regions.is_same" memory: number other: number => {
-            text_of(alloc, one_of(made, memory)?.is_same(one_of(made, other)?))
-        };
-        "ocp_regions.load" memory: number address: number size: size_of => {
+    made! { alloc, words, made, Regions;
+        "ocp_regions.new", "ocp_regions.copy", "ocp_regions.is_same", "ocp_regions.octets";
+        "ocp_regions.load" memory: number address: number size: size_of -> "number" => {
             match one_of(made, memory)?.load(address, size) {
                 Ok(number) => text!(alloc; "Ok", number),
                 Err(fault) => name_of(alloc, fault),
             }
         };
-        "ocp_regions.store" memory: number address: number size: size_of number: number => {
+        "ocp_regions.store" memory: number address: number size: size_of number: number
+                -> "`Ok`, or why not" => {
             show_done(alloc, at(made, memory)?.store(address, size, number))
         };
-        "ocp_regions.octets" memory: number address: number before => {
-            append!(alloc, before, Octets, out => one_of(made, memory)?.octets(address, out))
-        };
-        "ocp_regions.set_arguments" memory: number arguments: octets => {
+        "ocp_regions.set_arguments" memory: number arguments: octets -> "`Ok`" => {
             show_end(alloc, at(made, memory)?.set_arguments(few(&arguments)?))
         };
-        "ocp_regions.clear" memory: number => show_end(alloc, at(made, memory)?.clear());
+        "ocp_regions.clear" memory: number -> "`Ok`" => show_end(alloc, at(made, memory)?.clear());
     }
 }
 
 /// The answer of a call of bpf_step.
 pub(crate) fn machine_answer(made: &mut Vec<Machine>, alloc: Global, words: &[&str]) -> Answer {
-    table! { alloc, words;
-        "bpf_step.new" profile: profile => add(alloc, made, Machine::new(alloc, profile));
-        "bpf_step.copy" machine: number => {
-            let copy = one_of(made, machine)?.copy(alloc);
-            add(alloc, made, copy)
-        };
-        "bpf_step.is_same" machine: number other: number => {
-            text_of(alloc, one_of(made, machine)?.is_same(one_of(made, other)?))
-        };
-        "bpf_step.start" machine: number arguments: octets => {
+    made! { alloc, words, made, Machine;
+        "bpf_step.new", "bpf_step.copy", "bpf_step.is_same", "bpf_step.octets";
+        "bpf_step.start" machine: number arguments: octets -> "`Ok`" => {
             show_end(alloc, at(made, machine)?.start(few(&arguments)?))
         };
-        "bpf_step.registers" machine: number => {
+        "bpf_step.registers" machine: number -> "eleven numbers" => {
             text_of(alloc, Numbers(&one_of(made, machine)?.registers()))
         };
-        "bpf_step.place" machine: number => text_of(alloc, one_of(made, machine)?.place());
-        "bpf_step.depth" machine: number => text_of(alloc, one_of(made, machine)?.depth());
-        "bpf_step.octets" machine: number address: number before => {
-            append!(alloc, before, Octets, out => one_of(made, machine)?.octets(address, out))
+        "bpf_step.place" machine: number -> "number" => {
+            text_of(alloc, one_of(made, machine)?.place())
         };
-        "bpf_step.finish_call" machine: number r0: number => {
+        "bpf_step.depth" machine: number -> "number" => {
+            text_of(alloc, one_of(made, machine)?.depth())
+        };
+        "bpf_step.finish_call" machine: number r0: number -> "`Ok`" => {
             finish_call(alloc, at(made, machine)?, r0, None)
         };
-        "bpf_step.finish_call" machine: number r0: number r1: number => {
+        "bpf_step.finish_call" machine: number r0: number r1: number -> "`Ok`" => {
             finish_call(alloc, at(made, machine)?, r0, Some(r1))
         };
     }

@@ -4,6 +4,7 @@
 //! A line makes a thing, as an engine, a table, a machine or a pool, and later lines are calls of
 //! the one made last. `ocp_seats.new` makes a book of the engine; from there on the lines are calls
 //! of the book and of what it shows of the engine, up to a `close` that gives the engine back.
+//! `help` shows the calls of the things that there are, as rows of the page.
 #![tactic(auto)]
 
 /// The text of a variant: its name, and values of its fields.
@@ -29,6 +30,23 @@ macro_rules! append {
         let done = $done;
         output.show($alloc, done, $form(&output.octets))
     }};
+}
+
+/// A table of calls: as `table!`, and in each row, after an arrow, what the call is answered. The
+/// answer of the word `help` is its rows, each after a line feed.
+macro_rules! calls {
+    ($alloc:expr, $words:expr; $($name:literal $(| $more:literal)* $($word:ident $(: $kind:ident)?)*
+            $([$others:ident])? -> $($shown:literal)+ => $answer:expr;)+ $(else $other:expr)?) => {
+        match *$words {
+            ["help"] => text_of($alloc, concat!($(
+                "\n| `", $name, $("`, `", $more,)* "` |", $(" ", stringify!($word),)*
+                $(" ", stringify!($others), "..",)? " | ", $($shown,)+ " |"),+)),
+            _ => table! { $alloc, $words;
+                $($name $(| $more)* $($word $(: $kind)?)* $([$others])? => $answer;)+
+                $(else $other)?
+            },
+        }
+    };
 }
 
 mod answers;
@@ -59,6 +77,24 @@ use ocp_regions::Regions;
 use ocp_seats::{Book, Engine, Naming};
 use std::io;
 use std::process::ExitCode;
+
+/// The libraries whose calls `help` shows; those of an engine follow.
+const LIBRARIES: &[&str] = &[
+    "space_packet",
+    "pus_fields",
+    "obcp_types",
+    "obcp_messages",
+    "bpf_decode",
+    "bpf_assembler",
+    "ocp_regions",
+    "bpf_step",
+    "ocp_pool",
+    "ocp_words",
+    "ocp_table",
+    "ocp_debug",
+    "ocp_seats",
+    "ocp_core",
+];
 
 /// What earlier lines made: the engine and the table made last, the engine's tickets and works, and
 /// memories and machines, the first of each with the number 0.
@@ -102,15 +138,32 @@ impl Things {
             "ocp_table" => tables::table_answer(&mut self.tables, alloc, words),
             "ocp_debug" => tables::debug_answer(&mut self.tables, alloc, words),
             "ocp_core" => self.engine_text(alloc, words),
+            "ocp_seats" => self.share_text(alloc, words),
             _ => Err(Fault::Syntax),
         }
+    }
+
+    /// The rows of the calls of all libraries, and of the engine if there is one.
+    fn help(&mut self, alloc: Global, words: &[&str]) -> Answer {
+        let mut text = String::from_str(alloc, "| Call | Arguments | Answer |\n|---|---|---|")?;
+        for library in LIBRARIES {
+            text.push_str(&self.text(alloc, library, words)?)?;
+        }
+        if let Some(engine) = &mut self.engine {
+            let runs = &mut self.runs;
+            text.push_str(&engines::engine_answer(engine, runs, alloc, words)?)?;
+            text.push_str(&engines::answer(engine, &mut 0, runs, alloc, words)?)?;
+            text.push_str(&views::answer(engine, runs, alloc, words)?)?;
+        }
+        Ok(text)
     }
 
     /// The answer of a call of ocp_core. A new engine replaces the one before, with its tickets and
     /// works.
     fn engine_text(&mut self, alloc: Global, words: &[&str]) -> Answer {
-        table! { alloc, words;
-            "ocp_core.new" profile: profile apid: number words: number capacity: number => {
+        calls! { alloc, words;
+            "ocp_core.new" profile: profile apid: number words: number capacity: number
+                    -> "`Ok`" => {
                 self.engine = Some(new_engine(alloc, profile, apid, words, capacity)?);
                 self.runs = Runs::new(alloc);
                 text_of(alloc, "Ok")
@@ -121,13 +174,24 @@ impl Things {
             }
         }
     }
+
+    /// The answer of the call that makes a book.
+    fn share_text(&self, alloc: Global, words: &[&str]) -> Answer {
+        calls! { alloc, words;
+            "ocp_seats.new" -> "`Ok`" => match self.engine {
+                Some(_) => text_of(alloc, "Ok"),
+                None => Err(Fault::Syntax),
+            };
+        }
+    }
 }
 
 impl Calls for Things {
     fn answer(&mut self, alloc: Global, words: &[&str]) -> Result<Reply, Fault> {
         match *words {
-            ["ocp_seats.new"] if self.engine.is_some() => Ok(Reply::Last(text_of(alloc, "Ok")?)),
+            ["help"] => self.help(alloc, words).map(Reply::Text),
             [name, ..] => match name.split_once('.') {
+                Some(("ocp_seats", _)) => self.share_text(alloc, words).map(Reply::Last),
                 Some((library, _)) => self.text(alloc, library, words).map(Reply::Text),
                 None => Err(Fault::Syntax),
             },

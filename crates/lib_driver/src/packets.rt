@@ -6,16 +6,16 @@ use space_packet::{Apid, Primary, SequenceCount, SequenceFlags, read, write};
 
 /// The answer of a call.
 pub(crate) fn answer(alloc: Global, words: &[&str]) -> Answer {
-    table! { alloc, words;
-        "space_packet.apid" number: number =>
+    calls! { alloc, words;
+        "space_packet.apid" number: number -> "the number" =>
             text_of(alloc, some!(alloc, Apid::new(number)).number());
-        "space_packet.count" number: number => {
+        "space_packet.count" number: number -> "the number" => {
             text_of(alloc, some!(alloc, SequenceCount::new(number)).number())
         };
-        "space_packet.next" count: count_of => text_of(alloc, count.next().number());
-        "space_packet.read" packet: octets => read_packet(alloc, &packet);
+        "space_packet.next" count: count_of -> "the next one" => text_of(alloc, count.next().number());
+        "space_packet.read" packet: octets -> "`tc` or `tm`, secondary header, application process, flags, count, data" => read_packet(alloc, &packet);
         "space_packet.write" before telecommand: kind_of
-                secondary: flag apid: apid_of flags: flags_of count: count_of data: octets => {
+                secondary: flag apid: apid_of flags: flags_of count: count_of data: octets -> "octets" => {
             let header = Primary { telecommand, secondary, apid, flags, count };
             append!(alloc, before, Octets, out => write(&header, &data, out))
         };

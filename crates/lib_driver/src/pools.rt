@@ -28,18 +28,18 @@ pub(crate) fn answer(
     alloc: Global,
     words: &[&str],
 ) -> Answer {
-    table! { alloc, words;
-        "ocp_pool.new" words: number => {
+    calls! { alloc, words;
+        "ocp_pool.new" words: number -> "`Ok`" => {
             made.pool = Some(pool_of(alloc, words)?);
             text_of(alloc, "Ok")
         };
-        "ocp_pool.append" [numbers] =>
+        "ocp_pool.append" [numbers] -> "`Ok`" =>
             append(alloc, &mut made.mailbox, &numbers_of(alloc, numbers)?);
-        "ocp_pool.engine_call" machine: number call: number => {
+        "ocp_pool.engine_call" machine: number call: number -> "R0 and R1" => {
             make_call(alloc, call, made, at(machines, machine)?)
         };
-        "ocp_pool.word" index: number => word(alloc, &made.pool, index);
-        "ocp_pool.operation" [call] => {
+        "ocp_pool.word" index: number -> "number" => word(alloc, &made.pool, index);
+        "ocp_pool.operation" [call] -> "what it did to the pool, as `Set 2 7` after `PoolSet 2 7 9`" => {
             show_operation(alloc, some!(alloc, call_of(call)?.operation()))
         };
     }

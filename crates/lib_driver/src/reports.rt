@@ -1,27 +1,13 @@
-//! Calls of obcp_messages for reports.
+//! Reports in words.
 
-use crate::output::Output;
 use arrayvec::ArrayVec;
 use driver_lines::*;
 use obcp_messages::{
     BAD_CODE, MAX_ROWS, PlainCode, Report, StartFault, Status, StatusRow, StatusRows, read_report,
-    write_report,
 };
 
-/// The answer of a call.
-pub(crate) fn answer(alloc: Global, words: &[&str]) -> Answer {
-    table! { alloc, words;
-        "obcp_messages.read_report" service: number subtype: number data: octets => {
-            read(alloc, service, subtype, &data)
-        };
-        "obcp_messages.write_report" before [report] => {
-            let report = some!(alloc, report_of(alloc, report)?);
-            append!(alloc, before, Octets, out => or_memory(write_report(&report, out)))
-        };
-    }
-}
-
-fn read(alloc: Global, service: u8, subtype: u8, data: &[u8]) -> Answer {
+/// Reads the data of a report.
+pub(crate) fn read(alloc: Global, service: u8, subtype: u8, data: &[u8]) -> Answer {
     match read_report(service, subtype, data) {
         Ok(report) => show_read(alloc, &report),
         Err(fault) => name_of(alloc, fault),
@@ -62,7 +48,7 @@ fn show_rows(alloc: Global, rows: &[StatusRow]) -> Answer {
 }
 
 /// The report in words; none if its parts are no report's.
-fn report_of(alloc: Global, words: &[&str]) -> Result<Option<Report>, Fault> {
+pub(crate) fn report_of(alloc: Global, words: &[&str]) -> Result<Option<Report>, Fault> {
     table! { alloc, words;
         "Accepted" request: id => Ok(Some(Report::Accepted { request }));
         "NotAccepted" request: id code: number => Ok(Some(Report::NotAccepted { request, code }));

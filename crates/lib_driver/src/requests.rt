@@ -1,32 +1,41 @@
-//! Calls of obcp_messages for requests.
+//! Calls of obcp_messages, and requests in words.
 
 use crate::output::Output;
 use crate::reports;
 use arrayvec::ArrayVec;
 use bitflags::Flags;
 use driver_lines::*;
-use obcp_messages::{Arguments, Code, MAX_WORDS, Request, Words, read_request, write_request};
+use obcp_messages::{
+    Arguments, Code, MAX_WORDS, Request, Words, read_request, write_report, write_request,
+};
 use ocp_profile::Profile;
 use pus_fields::{Ack, Tc};
 use space_packet::{Apid, SequenceCount};
 
-/// The answer of a call for a request, or for a report.
+/// The answer of a call.
 pub(crate) fn answer(alloc: Global, words: &[&str]) -> Answer {
-    table! { alloc, words;
+    calls! { alloc, words;
         "obcp_messages.read_request"
-                profile: profile service: number subtype: number data: octets => {
+                profile: profile service: number subtype: number data: octets -> "subtype, request" => {
             read(alloc, profile, telecommand(service, subtype, &data)?)
         };
-        "obcp_messages.write_request" profile: profile before [request] => {
+        "obcp_messages.write_request" profile: profile before [request] -> "octets" => {
             let carried = payload_of(alloc, request)?;
             write(alloc, profile, before, &some!(alloc, request_of(request, &carried)?))
         };
-        "obcp_messages.has_fitting_budget" profile: profile [request] => {
+        "obcp_messages.has_fitting_budget" profile: profile [request] -> "flag" => {
             let carried = payload_of(alloc, request)?;
             let request = some!(alloc, request_of(request, &carried)?);
             text_of(alloc, request.has_fitting_budget(profile))
         };
-        else reports::answer(alloc, words)
+        "obcp_messages.read_report" service: number subtype: number data: octets
+                -> "service, subtype, report" => {
+            reports::read(alloc, service, subtype, &data)
+        };
+        "obcp_messages.write_report" before [report] -> "octets" => {
+            let report = some!(alloc, reports::report_of(alloc, report)?);
+            append!(alloc, before, Octets, out => or_memory(write_report(&report, out)))
+        };
     }
 }
 

@@ -31,8 +31,58 @@ impl<L: Naming> Seats<L> {
         self.closed
     }
 
+    fn book(&mut self) -> Result<&mut Book<L>, Fault> {
+        self.book.as_mut().ok_or(Fault::Syntax)
+    }
+
+    /// The answer of a call of the book, or of one of its seats.
+    fn text(&mut self, alloc: Global, words: &[&str]) -> Answer {
+        calls! { alloc, words;
+            "ocp_seats.seat" -> "number" => self.add_seat(alloc);
+            "ocp_seats.seat_count" -> "number" => text_of(alloc, self.book()?.seat_count());
+            "ocp_seats.take" -> "the ticket's number, its procedure" => {
+                match self.book()?.take(alloc) {
+                    Ok(ticket) => self.runs.add_ticket(alloc, ticket),
+                    Err(fault) => name_of(alloc, fault),
+                }
+            };
+            "ocp_seats.receipts" seat -> "entries, with their marks" => {
+                let seat = place_of(&mut self.seats, seat)?.as_ref().ok_or(Fault::Syntax)?;
+                show_all(alloc, seat.receipts())
+            };
+            "ocp_seats.close" [seats] -> "`Ok`, or why not" => self.close(alloc, seats);
+            else self.engine_text(alloc, words)
+        }
+    }
+
+    /// The answer of a call that changes the engine by the book, or shows something of it.
+    fn engine_text(&mut self, alloc: Global, words: &[&str]) -> Answer {
+        let book = self.book.as_mut().ok_or(Fault::Syntax)?;
+        match *words {
+            [name, seat, ..] if name.starts_with("ocp_seats.") => {
+                let seat = place_of(&mut self.seats, seat)?
+                    .as_mut()
+                    .ok_or(Fault::Syntax)?;
+                engines::answer(book, seat, &mut self.runs, alloc, words)
+            }
+            _ => views::answer(book.engine(), &mut self.runs, alloc, words),
+        }
+    }
+
+    /// Adds the next seat, and shows its number.
+    fn add_seat(&mut self, alloc: Global) -> Answer {
+        match self.book()?.seat(alloc) {
+            Ok(seat) => {
+                let number = seat.number();
+                self.seats.push(Some(seat))?;
+                text_of(alloc, number)
+            }
+            Err(fault) => name_of(alloc, fault),
+        }
+    }
+
     /// Closes the book with the seats of these numbers.
-    fn close(&mut self, alloc: Global, numbers: &[&str]) -> Result<Reply, Fault> {
+    fn close(&mut self, alloc: Global, numbers: &[&str]) -> Answer {
         let seats = take_seats(alloc, &mut self.seats, numbers)?;
         let Some(book) = self.book.take() else {
             return Err(Fault::Syntax);
@@ -40,30 +90,31 @@ impl<L: Naming> Seats<L> {
         match book.close(seats) {
             Ok(engine) => {
                 self.closed = Some(engine);
-                Ok(Reply::Last(text_of(alloc, "Ok")?))
+                text_of(alloc, "Ok")
             }
             Err(refused) => self.stay_open(alloc, refused),
         }
     }
 
     /// Takes the book and the seats back.
-    fn stay_open(&mut self, alloc: Global, refused: NotClosed<L>) -> Result<Reply, Fault> {
+    fn stay_open(&mut self, alloc: Global, refused: NotClosed<L>) -> Answer {
         let NotClosed { why, book, seats } = refused;
         self.book = Some(book);
         for seat in seats {
             put_seat(&mut self.seats, seat);
         }
-        Ok(Reply::Text(name_of(alloc, why)?))
+        name_of(alloc, why)
     }
 }
 
 impl<L: Naming> Calls for Seats<L> {
     fn answer(&mut self, alloc: Global, words: &[&str]) -> Result<Reply, Fault> {
-        if let ["ocp_seats.close", numbers @ ..] = words {
-            return self.close(alloc, numbers);
-        }
-        let book = self.book.as_mut().ok_or(Fault::Syntax)?;
-        Ok(Reply::Text(book_answer(book, &mut self.seats, &mut self.runs, alloc, words)?))
+        let text = self.text(alloc, words)?;
+        Ok(if self.closed.is_some() {
+            Reply::Last(text)
+        } else {
+            Reply::Text(text)
+        })
     }
 }
 
@@ -98,48 +149,4 @@ fn place_of<'a, L: Naming>(
         .checked_sub(1)
         .ok_or(Fault::Syntax)?;
     seats.get_mut(index).ok_or(Fault::Syntax)
-}
-
-/// The answer of a call of a book, or of one of its seats.
-fn book_answer<L: Naming>(
-    book: &mut Book<L>,
-    seats: &mut Vec<Option<Seat<L>>>,
-    runs: &mut Runs,
-    alloc: Global,
-    words: &[&str],
-) -> Answer {
-    table! { alloc, words;
-        "ocp_seats.seat" => add_seat(book, seats, alloc);
-        "ocp_seats.seat_count" => text_of(alloc, book.seat_count());
-        "ocp_seats.take" => match book.take(alloc) {
-            Ok(ticket) => runs.add_ticket(alloc, ticket),
-            Err(fault) => name_of(alloc, fault),
-        };
-        "ocp_seats.receipts" seat => {
-            show_all(alloc, place_of(seats, seat)?.as_ref().ok_or(Fault::Syntax)?.receipts())
-        };
-        else match *words {
-            [name, seat, ..] if name.starts_with("ocp_seats.") => {
-                let seat = place_of(seats, seat)?.as_mut().ok_or(Fault::Syntax)?;
-                engines::answer(book, seat, runs, alloc, words)
-            }
-            _ => views::answer(book.engine(), runs, alloc, words),
-        }
-    }
-}
-
-/// Adds the next seat, and shows its number.
-fn add_seat<L: Naming>(
-    book: &mut Book<L>,
-    seats: &mut Vec<Option<Seat<L>>>,
-    alloc: Global,
-) -> Answer {
-    match book.seat(alloc) {
-        Ok(seat) => {
-            let number = seat.number();
-            seats.push(Some(seat))?;
-            text_of(alloc, number)
-        }
-        Err(fault) => name_of(alloc, fault),
-    }
 }

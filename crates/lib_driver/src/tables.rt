@@ -48,51 +48,51 @@ impl Tables {
 
 /// The answer of a call of ocp_table.
 pub(crate) fn table_answer(tables: &mut Tables, alloc: Global, words: &[&str]) -> Answer {
-    table! { alloc, words;
-        "ocp_table.new" profile: profile words: number => tables.begin(alloc, profile, words);
-        "ocp_table.instruction" id: number => tables.instruction(alloc, id);
-        "ocp_table.load" id: number image: octets => {
+    calls! { alloc, words;
+        "ocp_table.new" profile: profile words: number -> "`Ok`" => tables.begin(alloc, profile, words);
+        "ocp_table.instruction" id: number -> "outcome" => tables.instruction(alloc, id);
+        "ocp_table.load" id: number image: octets -> "`Ok`, or why not" => {
             show_start(alloc, tables.table()?.load(id, &image))
         };
-        "ocp_table.unload" id: number => show_start(alloc, tables.table()?.unload(id));
-        "ocp_table.activate" id: number budget: number arguments: octets => {
+        "ocp_table.unload" id: number -> "`Ok`, or why not" => show_start(alloc, tables.table()?.unload(id));
+        "ocp_table.activate" id: number budget: number arguments: octets -> "`Ok`, or why not" => {
             activate(alloc, tables.table()?, id, budget, &arguments)
         };
-        "ocp_table.stop" id: number step: number => {
+        "ocp_table.stop" id: number step: number -> "`Ok`, or why not" => {
             show_start(alloc, tables.table()?.stop(id, step, PendingOrigin::default()))
         };
-        "ocp_table.suspend" id: number step: number => {
+        "ocp_table.suspend" id: number step: number -> "`Ok`, or why not" => {
             show_start(alloc, tables.table()?.suspend(id, step, PendingOrigin::default()))
         };
-        "ocp_table.resume" id: number => show_start(alloc, tables.table()?.resume(id));
-        "ocp_table.communicate" id: number [numbers] => {
+        "ocp_table.resume" id: number -> "`Ok`, or why not" => show_start(alloc, tables.table()?.resume(id));
+        "ocp_table.communicate" id: number [numbers] -> "`Ok`, or why not" => {
             let numbers = numbers_of(alloc, numbers)?;
             show_start(alloc, tables.table()?.communicate(id, &numbers))
         };
-        "ocp_table.abort" id: number => show_start(alloc, tables.table()?.abort(id));
-        "ocp_table.statuses" => show_all(alloc, tables.table()?.statuses().as_slice());
-        "ocp_table.outbox" => text_of(alloc, tables.table()?.outbox().len());
+        "ocp_table.abort" id: number -> "`Ok`, or why not" => show_start(alloc, tables.table()?.abort(id));
+        "ocp_table.statuses" -> "procedure and status of each" => show_all(alloc, tables.table()?.statuses().as_slice());
+        "ocp_table.outbox" -> "how many completions wait" => text_of(alloc, tables.table()?.outbox().len());
     }
 }
 
 /// The answer of a call of ocp_debug.
 pub(crate) fn debug_answer(tables: &mut Tables, alloc: Global, words: &[&str]) -> Answer {
-    table! { alloc, words;
-        "ocp_debug.set_break" id: number slot: number => {
+    calls! { alloc, words;
+        "ocp_debug.set_break" id: number slot: number -> "`Ok`, or why not" => {
             show_done(alloc, set_break(tables.table()?, id, slot))
         };
-        "ocp_debug.clear_break" id: number slot: number => {
+        "ocp_debug.clear_break" id: number slot: number -> "`Ok`, or why not" => {
             show_done(alloc, clear_break(tables.table()?, id, slot))
         };
-        "ocp_debug.set_trace" id: number on: flag => {
+        "ocp_debug.set_trace" id: number on: flag -> "`Ok`, or why not" => {
             show_done(alloc, set_trace(tables.table()?, id, on))
         };
-        "ocp_debug.view" id: number => show_view(alloc, view(tables.table()?, id));
-        "ocp_debug.view_text" id: number before => {
+        "ocp_debug.view" id: number -> "as `ocp_core.view`" => show_view(alloc, view(tables.table()?, id));
+        "ocp_debug.view_text" id: number before -> "text" => {
             let view = view(tables.table()?, id);
             append!(alloc, before, Text, out => or_memory(view_text(id, view, out)))
         };
-        "ocp_debug.trace_text" before [record] => write_trace(alloc, before, record);
+        "ocp_debug.trace_text" before [record] -> "text" => write_trace(alloc, before, record);
     }
 }
 

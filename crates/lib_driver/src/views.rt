@@ -10,26 +10,26 @@ use std::fmt;
 
 /// The answer of a call.
 pub(crate) fn answer(engine: &Engine, runs: &mut Runs, alloc: Global, words: &[&str]) -> Answer {
-    table! { alloc, words;
-        "ocp_core.events" => text_of(alloc, engine.events());
-        "ocp_core.room" => text_of(alloc, engine.room());
-        "ocp_core.entries" => show_all(alloc, engine.journal().entries());
-        "ocp_core.pool_word" index: number => text_of(alloc, OrNone(engine.pool_word(index)));
-        "ocp_core.memory" id: number address: number before => {
+    calls! { alloc, words;
+        "ocp_core.events" -> "number" => text_of(alloc, engine.events());
+        "ocp_core.room" -> "number" => text_of(alloc, engine.room());
+        "ocp_core.entries" -> "the journal's entries, with their marks" => show_all(alloc, engine.journal().entries());
+        "ocp_core.pool_word" index: number -> "number" => text_of(alloc, OrNone(engine.pool_word(index)));
+        "ocp_core.memory" id: number address: number before -> "octets" => {
             append!(alloc, before, Octets, out => engine.memory(id, address, out))
         };
-        "ocp_core.trace_lines" before => {
+        "ocp_core.trace_lines" before -> "text" => {
             append!(alloc, before, Text, out => or_memory(engine.trace_lines(out)))
         };
-        "ocp_core.view" id: number => show_view(alloc, engine.view(id));
-        "ocp_core.registers" id: number => {
+        "ocp_core.view" id: number -> "status, cause, place, depth, what is pending, what remains" => show_view(alloc, engine.view(id));
+        "ocp_core.registers" id: number -> "eleven numbers" => {
             text_of(alloc, Numbers(&some!(alloc, engine.view(id)).registers))
         };
-        "ocp_core.replay_one" id: number => replay(engine, alloc, id);
-        "ocp_core.ticket" id: number => {
+        "ocp_core.replay_one" id: number -> "place, depth and registers of its machine by itself" => replay(engine, alloc, id);
+        "ocp_core.ticket" id: number -> "the ticket's number, its procedure" => {
             runs.add_ticket(alloc, some!(alloc, or_memory(engine.ticket(alloc, id))?))
         };
-        "ocp_core.run_ticket" ticket: number budget: number => runs.run(alloc, ticket, budget);
+        "ocp_core.run_ticket" ticket: number budget: number -> "the work's number, its procedure, how many" => runs.run(alloc, ticket, budget);
     }
 }
 
