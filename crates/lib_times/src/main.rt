@@ -18,17 +18,10 @@ use std::{env, io};
 const BLOCKS: u32 = 200;
 
 /// A load of procedure 3: `add64 r0, 1` and a jump back to it.
-static LOAD: [u8; 33] = [
-    0x19, 0x23, 0xc0, 0x00, 0x00, 0x1a, 0x29, 0x12, 0x01, 0x00, 0x00, 0x00, 0x03, 0x00, 0x10, 0x07,
-    0x00, 0x00, 0x00, 0x01, 0x00, 0x00, 0x00, 0x05, 0x00, 0xfe, 0xff, 0x00, 0x00, 0x00, 0x00, 0x5a,
-    0x04,
-];
+const LOAD: &str = "1923c000001a29120100000003001007000000010000000500feff000000005a04";
 
 /// Its activation, with no arguments.
-static ACTIVATE: [u8; 17] = [
-    0x19, 0x23, 0xc0, 0x01, 0x00, 0x0a, 0x29, 0x12, 0x03, 0x00, 0x00, 0x00, 0x03, 0x00, 0x00, 0xb7,
-    0xb8,
-];
+const ACTIVATE: &str = "1923c001000a291203000000030000b7b8";
 
 /// The application process that these are for.
 const APID: u16 = 0x123;
@@ -119,9 +112,12 @@ fn time_slices(
     say(rt, blocks, "slice", budget, calls, timed)
 }
 
-/// Has an engine do a request of these octets.
-fn request(rt: &HostRuntime, engine: &mut Engine, packet: &[u8]) -> io::Result<()> {
-    match engine.request(rt.alloc(), 0, 0, packet) {
+/// Has an engine do a request of these octets, in hexadecimal digits.
+fn request(rt: &HostRuntime, engine: &mut Engine, packet: &str) -> io::Result<()> {
+    let Ok(octets) = hex::decode(rt.alloc(), packet) else {
+        return Err(AllocError.into());
+    };
+    match engine.request(rt.alloc(), 0, 0, &octets) {
         Ok(_) => Ok(()),
         Err(_) => Err(AllocError.into()),
     }
@@ -129,8 +125,8 @@ fn request(rt: &HostRuntime, engine: &mut Engine, packet: &[u8]) -> io::Result<(
 
 /// Times slices of procedure 3, which it loads and activates.
 fn time_procedure(rt: &HostRuntime, blocks: u32, engine: &mut Engine) -> io::Result<()> {
-    request(rt, engine, &LOAD)?;
-    request(rt, engine, &ACTIVATE)?;
+    request(rt, engine, LOAD)?;
+    request(rt, engine, ACTIVATE)?;
     time_slices(rt, blocks, engine, 1, 1_000)?;
     time_slices(rt, blocks, engine, 10, 1_000)?;
     time_slices(rt, blocks, engine, 100, 1_000)?;
