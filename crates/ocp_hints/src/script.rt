@@ -190,19 +190,18 @@ pub fn hint_on_script<'a>(
 ) -> Option<Hint<'a>>
     ensures within { IfSome result (λ hint. IsWithin hint.line.now hint.column) }
 {
-    let (number, column, limit) = match *fault {
-        ConsoleFault::Syntax(number) => (number, 0, None),
-        ConsoleFault::LineTooLong(number) => {
+    let number = u64::from(fault.line()?);
+    let (column, limit) = match fault {
+        ConsoleFault::LineTooLong(_) => {
             let limit = format!(in alloc; "a line has at most {MAX_LINE_OCTETS} octets").ok()?;
-            (number, MAX_LINE_OCTETS, Some(limit))
+            (MAX_LINE_OCTETS, Some(limit))
         }
         ConsoleFault::TooManyLines => {
             let limit = format!(in alloc; "a script has at most {MAX_LINES} lines").ok()?;
-            (MAX_LINES + 1, 0, Some(limit))
+            (0, Some(limit))
         }
-        _ => return None,
+        _ => (0, None),
     };
-    let number = u64::from(number);
     let line = line_at(text, number.saturating_sub(before));
     let mark = match limit {
         Some(limit) => (column, limit),
