@@ -3,3 +3,4 @@ pub mod Runs
 pub mod Scripts
 pub mod Workless
 pub mod Taking
+pub mod Telling

@@ -1,4 +1,3 @@
--- A run line by line and octet by octet, for its proofs.
+-- A run line by line, for its proofs.
 pub mod Lines
 pub mod Replies
-pub mod Session

@@ -1,7 +1,7 @@
 -- How much of a script a run reads.
 use Rattle.std.specs.Prelude.{◌≤◌, ℕ, List, [], ◌∷◌, length}
 use Rattle.text_lines.specs.Lines.{Line, lines_of, octets_of}
-use Rattle.ocp_console.specs.declared.session.TheConstants.{MAX_LINES, MAX_LINE_OCTETS}
+use Rattle.ocp_ports.specs.declared.fault.TheConstants.{MAX_LINES, MAX_LINE_OCTETS}
 
 -- none of the lines is too long
 abbrev pub AreShort : List Line → Type 0

@@ -13,7 +13,7 @@ use Rattle.ocp_ports.specs.declared.crew.CrewFault.{CrewFault}
 use Rattle.ocp_console.specs.Answering.{State, Effect, Does, Works, opening, respond}
 use Rattle.ocp_ports.specs.Faults.{crew_fault}
 use Rattle.ocp_console.specs.Crew.{CrewAnswers, HasDone, HasRefused}
-use Rattle.ocp_console.specs.declared.session.TheConstants.{MAX_LINES, MAX_LINE_OCTETS}
+use Rattle.ocp_ports.specs.declared.fault.TheConstants.{MAX_LINES, MAX_LINE_OCTETS}
 
 -- what is printed, and how the run ends
 abbrev pub Run : Type 0

@@ -1,14 +1,16 @@
 //! What a console keeps from line to line, and what each line does to it.
 
-ghost use Rattle.std.specs.Prelude.{◌≡◌, ◌<◌, length, IfOk, IfErr, OnOk};
+ghost use Rattle.std.specs.Prelude.{◌≡◌, ◌<◌, ◌⊎◌, length, IfOk, IfErr, OnOk};
 ghost use Rattle.space_packet.specs.declared.range.TheConstants.{IDLE_APID};
 
 use crate::debugging::{no_octets_text, octets_text, place_text, switch_text};
-use crate::texts::{answer_text, journal_text, pool_text, put_text, round_text, step_text};
+use crate::texts::{
+    answer_text, journal_text, pool_text, put_text, round_text, step_text, work_text,
+};
 use ocp_core::Engine;
 use ocp_debug::view_text;
-use ocp_lines::{Command, Count, MAX_MEMORY_LENGTH, Shift};
-use ocp_ports::{Crew, CrewFault};
+use ocp_lines::{Command, Count, MAX_MEMORY_LENGTH, Shift, read_command};
+use ocp_ports::{ConsoleFault, Crew};
 use ocp_profile::Profile;
 use ocp_words::Settings;
 use space_packet::{Apid, SequenceCount};
@@ -31,21 +33,13 @@ pub(crate) struct Console<A: Allocator> {
     pub ghost apid_in_range: { apid < IDLE_APID },
 }
 
-/// What a line leads to.
-#[derive(Clone, Copy)]
-pub(crate) enum Reply {
-    /// It was done, and the console's output is printed.
-    Printed,
-    /// The crew is to work.
-    Work(Shift),
-}
-
 impl<A: Allocator + Copy> Console<A> {
     ghost use Rattle.ocp_lines.specs.Grammar.{IsSayable, meaning_of};
     ghost use Rattle.ocp_console.specs.Answering.{state_of, opening, on_drain, trace_lines, view_text, memory_text, effect_of};
     ghost use Rattle.ocp_console.specs.Crew.{HasDone, HasRefused};
-    ghost use Rattle.ocp_console.specs.Texts.{work_line};
-    ghost use Rattle.ocp_console.specs.Mirror.Replies.{effect_by, works_of, IsKept};
+    ghost use Rattle.ocp_ports.specs.declared.crew.CrewFault.{CrewFault};
+    ghost use Rattle.ocp_ports.specs.Faults.{crew_fault};
+    ghost use Rattle.ocp_console.specs.Mirror.Replies.{effect_by, works_of, IsKept, Answers};
 
     /// A console on a new engine.
     pub fn new(alloc: A, settings: Settings) -> Result<Console<A>, AllocError>
@@ -114,8 +108,8 @@ impl<A: Allocator + Copy> Console<A> {
         }
     }
 
-    /// Does what a line asks for, or returns the work that it asks of the crew.
-    pub fn obey(&mut self, alloc: A, command: Command<'_>) -> Result<Reply, AllocError>
+    /// Does what a command asks for, or returns the work that it asks of the crew.
+    fn obey(&mut self, alloc: A, command: Command<'_>) -> Result<Option<Shift>, AllocError>
         requires { IsSayable self.old.profile (meaning_of command) }
         ensures effect { IfOk result
             (λ reply. effect_by (state_of self.new) self.new.output.items reply ≡
@@ -124,7 +118,7 @@ impl<A: Allocator + Copy> Console<A> {
             (λ reply. IsKept (state_of self.old) (state_of self.new) reply) }
     {
         match command {
-            Command::Work(shift) => return Ok(Reply::Work(shift)),
+            Command::Work(shift) => return Ok(Some(shift)),
             Command::Nothing => self.output.clear(),
             Command::Up(octets) => {
                 let answer = self.engine.request(alloc, 0, self.time, octets);
@@ -177,7 +171,24 @@ impl<A: Allocator + Copy> Console<A> {
             Command::Journal => journal_text(self.engine.events(), &mut self.output)?,
             Command::Drain => self.drain(alloc)?,
         }
-        Ok(Reply::Printed)
+        Ok(None)
+    }
+
+    /// Does what the line of this number asks for, or returns the work that it asks of the crew.
+    pub fn answer(
+        &mut self,
+        alloc: A,
+        number: u32,
+        line: &[u8],
+    ) -> Result<Option<Shift>, ConsoleFault>
+        ensures { Answers (state_of self.old) (state_of self.new) self.new.output.items
+            number line.now result }
+    {
+        let mut scratch = Vec::new(alloc);
+        let Some(command) = read_command(&mut scratch, self.profile, line)? else {
+            return Err(ConsoleFault::Syntax(number));
+        };
+        Ok(self.obey(alloc, command)?)
     }
 
     /// The console after the crew's work, or none if the crew refused: then the engine is lost.
@@ -185,18 +196,20 @@ impl<A: Allocator + Copy> Console<A> {
         mut self,
         crew: &C,
         shift: Shift,
-    ) -> Result<Console<A>, CrewFault>
+    ) -> Result<Console<A>, ConsoleFault>
         requires { C.ready crew.now }
         ensures done { IfOk result (λ console.
             HasDone (C.answers crew.now) (state_of self) (works_of shift)
-            (state_of console, work_line shift.workers.number)) }
-        ensures refused { IfErr result (λ refused.
-            HasRefused (C.answers crew.now) (state_of self) (works_of shift) refused) }
+            (state_of console, console.output.items)) }
+        ensures refused { IfErr result (λ fault. (fault ≡ ConsoleFault.Memory)
+            ⊎ ((refused : CrewFault) × (fault ≡ crew_fault refused)
+            × HasRefused (C.answers crew.now) (state_of self) (works_of shift) refused)) }
     {
         let workers = shift.workers.number as u16;
         let budget = shift.budget.number;
         let turns = shift.turns.number;
         self.engine = crew.work(self.engine, workers, budget, turns)?;
+        work_text(shift.workers.number, &mut self.output)?;
         Ok(self)
     }
 }

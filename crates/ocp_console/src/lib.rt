@@ -5,15 +5,13 @@
 mod console;
 mod debugging;
 pub mod laws;
+mod lines;
 mod script;
 mod sending;
-mod session;
-mod steps;
 mod text;
 mod texts;
 
 pub use ocp_commands::{asm, list};
-pub use ocp_ports::{ConsoleFault, Crew, CrewFault, Device, Sink, Source};
+pub use ocp_ports::{ConsoleFault, Crew, CrewFault, Device, MAX_LINES, Sink, Source};
 pub use ocp_words::{Job, Settings, WordsFault, not_utf8, read_words};
 pub use script::run;
-pub use session::MAX_LINES;

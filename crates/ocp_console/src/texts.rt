@@ -171,11 +171,14 @@ pub(crate) fn journal_text<A: Allocator>(
     write_text(&text, output)
 }
 
-/// The line of workers whose work was closed.
-pub(crate) fn work_text(workers: u32) -> Text
-    ensures { result ≡ work_line workers }
+/// Writes the line of workers whose work was closed.
+pub(crate) fn work_text<A: Allocator>(
+    workers: u32,
+    output: &mut Vec<u8, A>,
+) -> Result<(), AllocError>
+    ensures { OnOk result (output.new.items ≡ work_line workers) }
 {
     let mut text = Text::new();
     push_parts!(text; b"work " => workers; b" closed\n");
-    text
+    write_text(&text, output)
 }

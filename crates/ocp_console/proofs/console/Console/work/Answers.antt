@@ -1,9 +1,8 @@
-use Rattle.std.proofs.Common.{arith}
-use Rattle.std.proofs.lemmas.Grind.{common_steps}
+use Rattle.std.proofs.Common.{inr, refl}
+use Rattle.std.proofs.lemmas.Result.{err_from_is_err_and}
 use Rattle.ocp_console.proofs.console.Console.work.Goals as goal
 
 pub returns-in_err-self-clause-refused : goal.returns-in_err-self-clause-refused
-returns-in_err-self-clause-refused g c = grind (arith, common_steps)
-
-pub returns-clause-done : goal.returns-clause-done
-returns-clause-done g c = grind (arith, common_steps)
+returns-in_err-self-clause-refused g c =
+    let p = err_from_is_err_and c.from_residual.result c.from_residual.ensures.1 in
+    rw (p.1, p.2) (inr (c.in_err-self.field-0.0, refl, c.in_err-self.ensures))
