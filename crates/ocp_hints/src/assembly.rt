@@ -130,10 +130,12 @@ fn mark_of_why(line: &Line<'_>, why: Why) -> Option<Mark> {
         Why::Range => return mark_of_range(line),
         Why::DuplicateLabel => (label, b"this label labels another line already"),
         Why::UnknownLabel => (last, b"no line of the text has this label"),
+        Why::Load(LoadFault::Decode(fault, _)) => {
+            return mark_of_fault(line.alloc, line.column(1), &fault);
+        }
         Why::Load(fault) => {
             let column = match fault {
                 LoadFault::BadCall(_) | LoadFault::BadTarget(_) => last,
-                LoadFault::Decode(_, _) => line.column(1),
                 _ => line.column(0),
             };
             return mark_of_fault(line.alloc, column, &fault);

@@ -3,13 +3,13 @@
 ghost use Rattle.std.specs.Prelude.{IfSome};
 ghost use Rattle.ocp_hints.specs.Columns.{IsWithin};
 
-use crate::hint::{Hint, Mark, front_of, mark_at};
+use crate::hint::{Hint, Mark, Shown, front_of, mark_at};
 use crate::tables::{Table, text_on_front};
 use bpf_decode::{DecodeFault, decode_at};
 use bpf_listing::{DisassembleFault, disassemble};
 use ocp_ports::MAX_INPUT;
 use std::alloc::Global;
-use std::fmt::Display;
+use std::fmt::{Debug, Display};
 use text_lines::octets_of;
 
 /// The number of digits of a slot.
@@ -31,9 +31,16 @@ static MARKS: Table = b"\t: this is a tab, and digits are in one row
 /// The bits of the immediate number of an instruction.
 const NUMBER: u128 = 0xffff_ffff << 64;
 
-/// A mark with what a fault of an image means; None if memory is refused.
-pub(crate) fn mark_of_fault<F: Display>(alloc: Global, column: usize, fault: &F) -> Option<Mark> {
-    Some((column, fault.to_string(alloc).ok()?))
+/// A mark with the name of a fault of an image, and what it means; None if memory is refused.
+pub(crate) fn mark_of_fault<F: Debug + Display>(
+    alloc: Global,
+    column: usize,
+    fault: &F,
+) -> Option<Mark> {
+    let shown = format!(in alloc; "{fault:?}").ok()?;
+    let name = shown.as_bytes().split(|octet| *octet == b'(').next()?;
+    let sentence = format!(in alloc; "{}: {fault}", Shown(name)).ok()?;
+    Some((column, sentence))
 }
 
 /// What was unexpected in digits that spell no octets: the first octet that is no digit, or what no
