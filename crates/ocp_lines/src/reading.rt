@@ -4,9 +4,9 @@ ghost use Rattle.std.specs.Prelude.{◌≡◌, length, IfOk, IfSome, OnErr, IsTr
 ghost use Rattle.std.specs.Option.{option_map};
 ghost use Rattle.ocp_profile.specs.declared.profile.Profile.{Profile};
 ghost use Rattle.ocp_lines.specs.Words.{words_of, number_up_to};
-ghost use Rattle.ocp_lines.specs.Grammar.{Fits, meaning_of, from_one, up_in, send_in, id_and_steps, put_in, memory_in, work_in, switch, trace_in, debugger_command_in, plain_command_in, command_of, takes_octets, send_takes_octets};
+ghost use Rattle.ocp_lines.specs.Grammar.{Fits, meaning_of, from_one, up_in, send_in, put_in, memory_in, work_in, switch, trace_in, debugger_command_in, plain_command_in, command_of, takes_octets, send_takes_octets};
 
-use crate::command::{Command, Count, Flags, MAX_OCTETS_LENGTH, MAX_STEPS, Shift};
+use crate::command::{Command, Count, Flags, MAX_OCTETS_LENGTH, Shift};
 use crate::verbs::request;
 use crate::words::{
     address, last_octets, long, next_word, number, one_short, one_word, short, three_words,
@@ -66,16 +66,6 @@ fn send<'a, A: Allocator>(
         })),
         None => Ok(None),
     }
-}
-
-/// The identifier and the number of steps of a `step` or a `round` line.
-fn id_and_steps(arguments: &[u8]) -> Option<(u16, Count<MAX_STEPS>)>
-    ensures { option_map (λ found. (found.0, found.1.number)) result ≡
-        id_and_steps (words_of arguments.now) }
-{
-    let (id, steps) = two_words(arguments)?;
-    let id = short(id)?;
-    Some((id, count(steps)?))
 }
 
 fn put(arguments: &[u8]) -> Option<Command<'_>>
@@ -176,10 +166,14 @@ fn plain_command<'a>(name: &[u8], arguments: &'a [u8]) -> Option<Command<'a>>
     if name == b"time".as_slice() {
         Some(Command::Time(long(one_word(arguments)?)?))
     } else if name == b"step".as_slice() {
-        let (id, steps) = id_and_steps(arguments)?;
+        let (id, steps) = two_words(arguments)?;
+        let id = short(id)?;
+        let steps = count(steps)?;
         Some(Command::Step { id, steps })
     } else if name == b"round".as_slice() {
-        let (id, steps) = id_and_steps(arguments)?;
+        let (id, steps) = two_words(arguments)?;
+        let id = short(id)?;
+        let steps = count(steps)?;
         Some(Command::Round { id, steps })
     } else if name == b"pool".as_slice() {
         Some(Command::Pool(number(one_word(arguments)?, u64::MAX)?))
