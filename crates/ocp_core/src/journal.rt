@@ -1,7 +1,7 @@
 //! The journal.
 
 ghost use Rattle.std.specs.Prelude.{◌≡◌, ◌≤◌, ◌<◌, ◌^◌, map, length, IfOk};
-ghost use Rattle.ocp_core.specs.Clauses.{Log, MAX_APID, MAX_CAPACITY, MAX_POOL_WORDS, empty_log, entries_with_marks, entry_of, entry_with_mark, expand, is_full, mark_of, MayAdd, with_entry, world_of};
+ghost use Rattle.ocp_core.specs.Clauses.{Log, MAX_APID, MAX_CAPACITY, MAX_POOL_WORDS, empty_log, entries_with_marks, entry_of, entry_with_mark, events_of, expand, is_full, mark_of, MayAdd, with_entry, world_of};
 ghost use Rattle.ocp_core.specs.Mirror.Codes.{log_code};
 ghost use Rattle.ocp_core.specs.Mirror.Kept.{log_of, IsKept};
 
@@ -121,13 +121,15 @@ impl<A: Allocator> Journal<A> {
         self.events
     }
 
-    /// Adds an entry, whose events are accepted, and whose mark is the answer that they are given.
-    pub(crate) fn push(&mut self, entry: Entry<A>)
-        requires { MayAdd (λ log. log) (λ log e. is_full log) self.old (entry_of entry)
+    /// Adds an entry of this many events, which are accepted. Its mark is the answer that they are
+    /// given.
+    fn push(&mut self, events: u32, entry: Entry<A>)
+        requires events { events ≡ length (events_of (entry_of entry)) }
+        requires may { MayAdd (λ log. log) (λ log e. is_full log) self.old (entry_of entry)
             (mark_of entry) }
         ensures { self.new ≡ with_entry self.old (entry_of entry) }
     {
-        self.events += entry.events();
+        self.events += u64::from(events);
         self.entries.push_reserved(entry);
     }
 }
@@ -160,20 +162,21 @@ impl<A: Allocator> Store for Journal<A> {
     }
 
     fn push_steps(&mut self, by: u16, id: u16, count: u32, mark: StepOutcome) {
-        self.push(Entry::Steps {
+        let entry = Entry::Steps {
             by,
             id,
             count,
             mark,
-        });
+        };
+        self.push(count, entry);
     }
 
     fn push_command(&mut self, by: u16, id: u16, command: Command) {
-        self.push(Entry::of_command(by, id, command));
+        self.push(1, Entry::of_command(by, id, command));
     }
 
     fn push_word(&mut self, by: u16, index: u16, value: u64) {
-        self.push(Entry::PutWord { by, index, value });
+        self.push(1, Entry::PutWord { by, index, value });
     }
 }
 
@@ -210,12 +213,13 @@ impl<A: Allocator + Copy> RequestStore for Journal<A> {
     ) -> Self::Receipt {
         let (octets, own) = copy;
         let (answer, mark, receipt) = kept.into_parts();
-        self.push(Entry::Request {
+        let entry = Entry::Request {
             by,
             time,
             octets,
             mark,
-        });
+        };
+        self.push(1, entry);
         let receipt = Entry::Request {
             by,
             time,
@@ -227,7 +231,7 @@ impl<A: Allocator + Copy> RequestStore for Journal<A> {
 
     fn push_drain(&mut self, by: u16, time: u32, kept: SharedReports<A>) -> Self::Receipt {
         let (answer, mark, receipt) = kept.into_parts();
-        self.push(Entry::Drain { by, time, mark });
+        self.push(1, Entry::Drain { by, time, mark });
         let mark = receipt;
         (answer, Entry::Drain { by, time, mark })
     }

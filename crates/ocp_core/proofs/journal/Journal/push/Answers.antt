@@ -16,8 +16,8 @@ invariant_of-self g c =
     let j = c.self.inside in
     let e = c.args.entry in
     let old = map entry_of j.entries.items in
-    let room = subst (λ l. is_full l ≡ false) (sym c.self.view_is) c.requires.room in
-    let mark = subst (λ l. mark_of e ≡ mark_in (world_of l) (entry_of e)) (sym c.self.view_is) c.requires.mark in
+    let room = subst (λ l. is_full l ≡ false) (sym c.self.view_is) c.requires.may.room in
+    let mark = subst (λ l. mark_of e ≡ mark_in (world_of l) (entry_of e)) (sym c.self.view_is) c.requires.may.mark in
     let counted : length j.entries.items ≡ vec_len j.entries = grind (arith, common_steps) in
     let within : length j.entries.items ≤ j.capacity = omega (arith, counted, c.self.invariant.few) in
     let room_left = not_full entry_of j.entries.items j.capacity room within in
@@ -26,7 +26,7 @@ invariant_of-self g c =
     ∙ ap (λ es. length (expand es)) (map-append entry_of j.entries.items (e ∷ []))
     ∙ length-expand-with_entry old (entry_of e) in
     let log = log_of j in
-    let accepted = subst (λ l. AreCounted (world_of l) (events_of (entry_of e))) (sym c.self.view_is) c.requires.accepted in
+    let accepted = subst (λ l. AreCounted (world_of l) (events_of (entry_of e))) (sym c.self.view_is) c.requires.may.accepted in
     let entered : map entry_of c.push_reserved.new.self.items ≡ old ++ entry_of e ∷ [] =
     ap (map entry_of) c.push_reserved.ensures.items ∙ map-append entry_of j.entries.items (e ∷ []) in
     let numbered = number_more log (record log { entries = map entry_of c.push_reserved.new.self.items }) (entry_of e) (ap (λ es. record log { entries = es }) entered) accepted in
@@ -37,8 +37,8 @@ invariant_of-self g c =
       few = omega (arith, c.push_reserved.ensures.len, room_left, counted);
       room = search rules;
       limit = search rules;
-      counted = omega (arith, c.self.invariant.counted, c.events.ensures.value, more);
-      numbered = omega (arith, c.self.invariant.numbered, c.events.ensures.value, numbered);
+      counted = omega (arith, c.self.invariant.counted, c.requires.events, more);
+      numbered = omega (arith, c.self.invariant.numbered, c.requires.events, numbered);
       bounded = search rules;
       marks = marks_kept j.profile j.apid j.words j.capacity j.entries.items c.push_reserved.new.self.items e c.push_reserved.ensures.items c.self.invariant.marks mark;
     }
