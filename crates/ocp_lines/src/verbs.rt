@@ -19,13 +19,13 @@ fn parameters(text: &[u8]) -> Option<Words>
 {
     let mut numbers = ArrayVec::<u64, MAX_WORDS>::new();
     let mut rest = text;
-    while let Some((word, behind)) = next_word(rest) {
+    while let Some((word, after)) = next_word(rest) {
         let value = number(word, u64::MAX)?;
         if numbers.is_full() {
             return None;
         }
         numbers.push(value);
-        rest = behind;
+        rest = after;
     }
     Words::new(numbers)
 }

@@ -43,8 +43,8 @@ pub fn next_word(text: &[u8]) -> Option<(&[u8], &[u8])>
         (λ found. words_of text.now ≡ found.0.now ∷ words_of found.1.now) }
 {
     let mut rest = text;
-    while let [b' ', behind @ ..] = rest {
-        rest = behind;
+    while let [b' ', after @ ..] = rest {
+        rest = after;
     }
     let length = length_before(b' ', rest);
     if length == 0 {
