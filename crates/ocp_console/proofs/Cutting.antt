@@ -1,5 +1,5 @@
 -- A text that is cut into lines.
-use Rattle.std.proofs.Common.{◌≡◌, ◌++◌, ◌<◌, ◌≤◌, ◌+◌, ◌-◌, List, [], ◌∷◌, ℕ, zero, suc, Bool, true, false, eqb, not, ◌&&◌, cond, length, length-append, take, drop, get_or, take-append-drop, append_assoc, append-nil, length-drop, zero-add, suc-add, ◌⊎◌, inl, inr, refl, sym, ap, subst, ◌∙◌, arith}
+use Rattle.std.proofs.Common.{◌≡◌, ◌++◌, ◌<◌, ◌≤◌, ◌+◌, ◌-◌, List, [], ◌∷◌, ℕ, zero, suc, Bool, true, false, eqb, not, ◌&&◌, length, length-append, take, drop, get_or, take-append-drop, append_assoc, append-nil, length-drop, zero-add, suc-add, ◌⊎◌, inl, inr, refl, sym, ap, subst, ◌∙◌, arith}
 use Rattle.std.proofs.lemmas.List.{drop-take, drop_more, length-take-le}
 use Rattle.std.proofs.Math.Seq.{drop-nil}
 use Rattle.text_lines.specs.Lines.{Line, Ended, Open, onto, lines_of}
@@ -98,16 +98,3 @@ next_held chunk start stop c lt le is =
     let long : stop - start ≡ (c + 1) + m = omega (arith, lt) in
     let rest : drop (c + 1) h ≡ take m (drop (start + (c + 1)) chunk) = ap (λ (k : ℕ). drop (c + 1) (take k (drop start chunk))) long ∙ drop-take (c + 1) m (drop start chunk) ∙ ap (λ (t : List ℕ). take m t) (drop_on start (c + 1) chunk) in
     sym (take-append-drop c h) ∙ ap (λ (t : List ℕ). take c h ++ t) (drop_more h c 0 (omega (arith, lt, le)) ∙ ap (λ (o : ℕ). o ∷ drop (c + 1) h) is ∙ ap (λ (t : List ℕ). 10 ∷ t) rest)
-
-by_test : (b : Bool) (x y : List Line) (n : ℕ) → Begins x n → Begins y n → Begins (cond b x y) n
-by_test true x y n h k = h
-by_test false x y n h k = k
-
-weaker : (ls : List Line) → Begins ls 1 → Begins ls 0
-weaker [] h = absurd h
-weaker (l ∷ ls) h = omega arith
-
--- a text that is not empty has a line
-pub some_line : (p : List ℕ) (c : ℕ) (rest : List ℕ) → Begins (lines_of (p ++ c ∷ rest)) 0
-some_line [] c rest = by_test (eqb c 10) (Ended [] ∷ lines_of rest) (onto c (lines_of rest)) 0 (omega arith) (weaker (onto c (lines_of rest)) (onto-some c (lines_of rest)))
-some_line (a ∷ p) c rest = by_test (eqb a 10) (Ended [] ∷ lines_of (p ++ c ∷ rest)) (onto a (lines_of (p ++ c ∷ rest))) 0 (omega arith) (weaker (onto a (lines_of (p ++ c ∷ rest))) (onto-some a (lines_of (p ++ c ∷ rest))))
