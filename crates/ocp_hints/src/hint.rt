@@ -2,15 +2,13 @@
 
 ghost use Rattle.ocp_hints.specs.Columns.{IsWithin};
 
-use std::alloc::Global;
+use std::alloc::{AllocError, Global};
 use std::fmt;
 
-/// The most octets that are shown of a line before the mark, of the whole line, and of a word.
-const SHOWN_BEFORE: usize = 60;
+/// The most octets that are shown of a line before the mark or of a word, and of a line.
+pub(crate) const SHOWN_BEFORE: usize = 60;
 
 const SHOWN: usize = 120;
-
-const SHOWN_OF_WORD: usize = 40;
 
 /// A hint: a line as it was read, a mark under what was unexpected, and one sentence of what may
 /// stand there.
@@ -32,20 +30,17 @@ pub(crate) struct Shown<'a>(pub &'a [u8]);
 /// The column of what was unexpected in a line, and the sentence on it.
 pub(crate) type Mark = (usize, String);
 
+/// What a call gives unless memory is refused.
+pub(crate) type Result<T> = std::result::Result<T, AllocError>;
+
 /// The first octets, or all if there are fewer.
 pub(crate) fn front_of(octets: &[u8], most: usize) -> &[u8] {
     octets.get(..most).unwrap_or(octets)
 }
 
-/// The octets of a word that are shown.
-pub(crate) fn front_of_word(word: &[u8]) -> Shown<'_> {
-    Shown(front_of(word, SHOWN_OF_WORD))
-}
-
-/// A mark with a sentence that no word of the line changes; None if memory is refused.
-pub(crate) fn mark_at(alloc: Global, column: usize, sentence: &[u8]) -> Option<Mark> {
-    let sentence = format!(in alloc; "{}", Shown(sentence)).ok()?;
-    Some((column, sentence))
+/// A mark with a sentence that no word of the line changes.
+pub(crate) fn mark_at(alloc: Global, column: usize, sentence: &[u8]) -> Result<Mark> {
+    Ok((column, format!(in alloc; "{}", Shown(sentence))?))
 }
 
 impl<'a> Hint<'a> {

@@ -3,11 +3,10 @@
 ghost use Rattle.std.specs.Prelude.{IfSome};
 ghost use Rattle.ocp_hints.specs.Columns.{IsWithin};
 
-use crate::hint::{Hint, Mark, Shown, front_of, mark_at};
-use crate::tables::{Table, text_on_front};
+use crate::hint::{Hint, Mark, Result, front_of, mark_at};
+use crate::tables::{Table, text_on};
 use bpf_decode::{DecodeFault, decode_at};
 use bpf_listing::{DisassembleFault, disassemble};
-use ocp_ports::MAX_INPUT;
 use std::alloc::Global;
 use std::fmt::{Debug, Display};
 use text_lines::octets_of;
@@ -15,42 +14,32 @@ use text_lines::octets_of;
 /// The number of digits of a slot.
 pub(crate) const SLOT_DIGITS: usize = 16;
 
-/// The sentence on an input that is too long.
-pub(crate) const TOO_LONG: &[u8] = b"an input has at most 1048576 octets";
-
 /// The sentence on digits that are no pairs.
 pub(crate) const ODD: &[u8] = b"the number of hexadecimal digits is even";
 
 /// What no image may have at a place.
-static MARKS: Table = b"\t: this is a tab, and digits are in one row
-\xef\xbb\xbf: this is a byte order mark: save the file without it
-0x|0X|\\x: digits come alone, with nothing before them
-\x7fELF: this is an ELF file: examples/c/build makes the image of one
-\r: this is a carriage return, and a newline alone may end the digits";
+static MARKS: Table = b"\t..: this is a tab, and digits are in one row
+\xef\xbb\xbf..: this is a byte order mark: save the file without it
+0x..|0X..|\\x..: digits come alone, with nothing before them
+\x7fELF..: this is an ELF file: examples/c/build makes the image of one
+\r..: this is a carriage return, and a newline alone may end the digits";
 
-/// The bits of the immediate number of an instruction.
-const NUMBER: u128 = 0xffff_ffff << 64;
-
-/// A mark with the name of a fault of an image, and what it means; None if memory is refused.
-pub(crate) fn mark_of_fault<F: Debug + Display>(
-    alloc: Global,
-    column: usize,
-    fault: &F,
-) -> Option<Mark> {
-    let shown = format!(in alloc; "{fault:?}").ok()?;
-    let name = shown.as_bytes().split(|octet| *octet == b'(').next()?;
-    let sentence = format!(in alloc; "{}: {fault}", Shown(name)).ok()?;
-    Some((column, sentence))
+/// The name of a fault of an image, and what it means.
+pub(crate) fn sentence_of<F: Debug + Display>(alloc: Global, fault: &F) -> Result<String> {
+    let shown = format!(in alloc; "{fault:?}")?;
+    let name = shown.as_str().split('(').next().unwrap_or("");
+    format!(in alloc; "{name}: {fault}")
 }
 
 /// What was unexpected in digits that spell no octets: the first octet that is no digit, or what no
 /// image may have from the digit before it on.
-fn mark_of_digits(alloc: Global, digits: &[u8]) -> Option<Mark> {
+fn mark_of_digits(alloc: Global, digits: &[u8]) -> Result<Mark> {
     let Some(end) = digits.iter().position(|octet| !octet.is_ascii_hexdigit()) else {
         return mark_at(alloc, digits.len(), ODD);
     };
     for column in [end.saturating_sub(1), end] {
-        if let Some(sentence) = text_on_front(digits.get(column..).unwrap_or(&[]), MARKS) {
+        let rest = digits.get(column..).unwrap_or(&[]);
+        if let Some(sentence) = text_on(rest, MARKS) {
             return mark_at(alloc, column, sentence);
         }
     }
@@ -65,15 +54,12 @@ fn mark_of_digits(alloc: Global, digits: &[u8]) -> Option<Mark> {
 /// The number of digits of an instruction before the field at fault: the first with which the
 /// decoder has the fault if the fields after it are zero, the immediate number apart.
 fn column_of_fault(code: &[u8], fault: DecodeFault) -> usize {
-    if fault == DecodeFault::UnknownOpcode {
-        return 0;
-    }
     let mut octets = [0u8; 16];
     for (place, octet) in octets.iter_mut().zip(code) {
         *place = *octet;
     }
-    for (column, bits_after) in [(8, 120), (2, 116), (3, 112), (4, 96), (SLOT_DIGITS, 0)] {
-        let fields = u128::MAX.wrapping_shl(bits_after) | NUMBER;
+    for (column, bits_after) in [(0, 128), (8, 120), (2, 116), (3, 112), (4, 96)] {
+        let fields = u128::MAX.checked_shl(bits_after).unwrap_or(0) | (0xffff_ffff << 64);
         let front = u128::from_be_bytes(octets) & fields;
         if matches!(decode_at(&front.to_be_bytes(), 0), Err(found) if found == fault) {
             return column;
@@ -87,32 +73,24 @@ fn column_of_fault(code: &[u8], fault: DecodeFault) -> usize {
 pub fn hint_on_image<'a>(alloc: Global, text: &'a [u8]) -> Option<Hint<'a>>
     ensures within { IfSome result (λ hint. IsWithin hint.line.now hint.column) }
 {
-    if text.len() > MAX_INPUT {
-        return Some(Hint::new(None, &[], mark_at(alloc, 0, TOO_LONG)?));
-    }
-    let mut digits = text;
-    for _ in 0..text.len() {
-        match digits {
-            [start @ .., b' ' | b'\n'] => digits = start,
-            _ => break,
-        }
-    }
+    let last = text
+        .iter()
+        .rposition(|octet| !matches!(octet, b' ' | b'\n'));
+    let digits = front_of(text, last.map_or(0, |last| last.saturating_add(1)));
     let mut room = Vec::new(alloc);
     let Some(image) = octets_of(&mut room, digits).ok()? else {
-        return Some(Hint::new(None, digits, mark_of_digits(alloc, digits)?));
+        return Some(Hint::new(None, digits, mark_of_digits(alloc, digits).ok()?));
     };
     let (slot, mark) = match disassemble(image, &mut Vec::new(alloc)) {
         Ok(()) | Err(DisassembleFault::Memory) => return None,
         Err(DisassembleFault::Ragged) => {
             let sentence = b"an image is whole slots of 16 digits";
-            (image.len() / 8, mark_at(alloc, SLOT_DIGITS, sentence)?)
+            (image.len() / 8, mark_at(alloc, SLOT_DIGITS, sentence).ok()?)
         }
         Err(DisassembleFault::Decode(fault, slot)) => {
             let code = image.get(slot.saturating_mul(8)..).unwrap_or(&[]);
-            (
-                slot,
-                mark_of_fault(alloc, column_of_fault(code, fault), &fault)?,
-            )
+            let sentence = sentence_of(alloc, &fault).ok()?;
+            (slot, (column_of_fault(code, fault), sentence))
         }
     };
     let begin = slot.saturating_mul(SLOT_DIGITS);

@@ -3,12 +3,11 @@
 ghost use Rattle.std.specs.Prelude.{IfSome};
 ghost use Rattle.ocp_hints.specs.Columns.{IsWithin};
 
-use crate::hint::{Hint, Mark, Shown, front_of, front_of_word, mark_at};
+use crate::hint::{Hint, Mark, Result, SHOWN_BEFORE, Shown, front_of, mark_at};
 use crate::image::{ODD, SLOT_DIGITS};
-use crate::line::{self, Line, MARKS, line_at};
-use crate::tables::{Table, text_on_front, text_on_word};
-use bpf_text::LineFault;
-use ocp_ports::{ConsoleFault, MAX_LINE_OCTETS, MAX_LINES};
+use crate::line::{self, Fit, Line, MARKS, Reader, line_at, word_of};
+use crate::tables::{Table, text_on};
+use ocp_ports::{ConsoleFault, MAX_LINE_OCTETS};
 use ocp_profile::Profile;
 use std::alloc::Global;
 
@@ -36,8 +35,8 @@ static REQUESTS: Table = b" <id> [<hex>]: 65535 0a
 :";
 
 /// What may stand in the parts of forms that are no numbers.
-static PARTS: Table = b"0x: an address is 0x and 1 to 16 hexadecimal digits
-on: a switch is on or off
+static PARTS: Table = b"0x..: an address is 0x and 1 to 16 hexadecimal digits
+on..: a switch is on or off
 <verb>: a verb of send is one of load, unload, activate, stop, suspend, resume, abort, \
 communicate, status";
 
@@ -70,111 +69,85 @@ fn sentence_on_rest(form: &[u8], is_octets: bool, word: &[u8]) -> &'static [u8] 
     }
 }
 
-/// The sentence for a word in place of another part.
-fn sentence_on_part(alloc: Global, text: &[u8], word: &[u8]) -> Option<String> {
-    let (text, found) = (Shown(text), front_of_word(word));
-    format!(in alloc; "{text}, found {found}").ok()
-}
-
-/// The sentence for a word in place of a number from the least to the greatest of these.
-fn sentence_on_number(
-    alloc: Global,
-    name: &[u8],
-    least: char,
-    most: &[u8],
-    word: &[u8],
-) -> Option<String> {
-    let joint = match word {
+/// What was unexpected in a line of this form after a verb. Both are shown after `head`.
+fn mark_of_form(line: &Line<'_>, head: &str, verb: &[u8], fit: Fit) -> Result<Mark> {
+    let (form, example, _) = fit;
+    let form = format!(in line.alloc; "{}{}", Shown(verb), Shown(form))?;
+    let count = line.count_of_words(example)?;
+    let ((column, word), part) = (line.at(count), word_of(form.as_bytes(), count));
+    let takes_zero = !line.refuses(count, b"0", example)?;
+    let (shown, found) = (Shown(part), Shown(front_of(word, SHOWN_BEFORE)));
+    let digits = match word {
         [b'0', b'x' | b'X', ..] => ", in decimal digits",
         _ => "",
     };
-    let (name, most, found) = (Shown(name), Shown(most), front_of_word(word));
-    format!(in alloc; "{name} is {least} to {most}{joint}, found {found}").ok()
-}
-
-/// What was unexpected in a line of this form, whose example follows the verb.
-fn mark_of_form(line: &Line<'_>, form: String, example: &'static [u8]) -> Option<Mark> {
-    let count = line.count_of_words(example, LineFault::Syntax)?;
-    let (column, word) = (line.column(count), line.word(count));
-    let part = line.of(form.as_bytes()).from(line.first).word(count);
-    let (example, front) = (line.of(example), front_of(line.text, column));
-    let mut least = None;
-    for digit in *b"10" {
-        if !line.refuses(front, &[digit], example.after(count), LineFault::Syntax)? {
-            least = Some(char::from(digit));
+    let mut text = format!(in line.alloc; "{head}{form}: ")?;
+    match (text_on(part, PARTS), part) {
+        _ if word.is_empty() => write!(text, "{shown} is missing")?,
+        _ if word.eq_ignore_ascii_case(part) => write!(text, "lines are in lower case: {shown}")?,
+        (Some(what), _) => write!(text, "{}, found {found}", Shown(what))?,
+        (None, [b'<', name @ .., b'>']) => {
+            let (name, least) = (Shown(name), u8::from(!takes_zero));
+            let most = Shown(word_of(example, count.saturating_sub(1)));
+            write!(text, "{name} is {least} to {most}{digits}, found {found}")?
+        }
+        // The part `..` is for more numbers.
+        (None, _) if takes_zero => {
+            write!(text, "number is 0 to {}{digits}, found {found}", u64::MAX)?
+        }
+        (None, _) => {
+            let rest = sentence_on_rest(form.as_bytes(), part.starts_with(b"["), word);
+            write!(text, "{}", Shown(rest))?
         }
     }
-    let sentence = match text_on_front(part, PARTS) {
-        _ if word.is_empty() => format!(in line.alloc; "{} is missing", Shown(part)).ok()?,
-        _ if word.eq_ignore_ascii_case(part) => {
-            format!(in line.alloc; "lines are in lower case: {}", Shown(part)).ok()?
-        }
-        Some(text) => sentence_on_part(line.alloc, text, word)?,
-        None => match (least, part) {
-            (Some(least), [b'<', name @ .., b'>']) => {
-                let most = example.word(count.saturating_sub(1));
-                sentence_on_number(line.alloc, name, least, most, word)?
-            }
-            // The part `..` is for more numbers.
-            (Some(least), _) => {
-                sentence_on_number(line.alloc, b"number", least, example.word(1), word)?
-            }
-            (None, _) => {
-                let text = sentence_on_rest(form.as_bytes(), part.starts_with(b"["), word);
-                format!(in line.alloc; "{}", Shown(text)).ok()?
-            }
-        },
-    };
-    let sentence = format!(in line.alloc; "{form}: {sentence}").ok()?;
-    Some((column, sentence))
+    Ok((column, text))
 }
 
-/// What was unexpected in a line in lower case that begins with no verb.
-fn mark_of_stray(line: &Line<'_>) -> Option<Mark> {
-    let (column, word) = (line.column(0), line.word(0));
-    let text = format!(in line.alloc; "send 0 {}", Shown(word)).ok()?;
-    let request = line.of(text.as_bytes()).from(2);
-    if let Some((form, _, _)) = request.best_form(REQUESTS, LineFault::Syntax)? {
-        let (verb, form) = (Shown(word), Shown(form));
-        let sentence = format!(in line.alloc; "{NO_FLAGS} {verb}{form}").ok()?;
-        return Some((column, sentence));
-    }
-    let is_image = !line.refuses(b"send 0 load 0 ", word, &[], LineFault::Syntax)?;
-    let sentence = match text_on_word(word, STRAYS).or(text_on_word(word, line::STRAYS)) {
+/// The sentence for a word that begins no line.
+fn sentence_on_stray(word: &[u8]) -> &'static [u8] {
+    let are_digits = word.iter().all(|octet| octet.is_ascii_hexdigit());
+    match text_on(word, STRAYS).or(text_on(word, line::STRAYS)) {
         Some(sentence) => sentence,
-        None if is_image && word.len() >= SLOT_DIGITS => {
+        None if are_digits && word.len() >= SLOT_DIGITS => {
             b"digits of an image come after send <flags> load <id>"
         }
         None => NO_COMMAND,
-    };
-    mark_at(line.alloc, column, sentence)
+    }
 }
 
-/// What was unexpected in the words of a line. Its form is that of the line in lower case.
-fn mark_of_words(line: &Line<'_>) -> Option<Mark> {
-    let text = line.text.to_ascii_lowercase(line.alloc).ok()?;
-    let lower = line.of(text.as_slice());
-    if line.word(0) == b"send".as_slice() {
-        let request = lower.from(2);
-        if let Some((form, example, _)) = request.best_form(REQUESTS, LineFault::Syntax)? {
-            let (verb, form) = (Shown(request.word(0)), Shown(form));
-            let form = format!(in line.alloc; "send <flags> {verb}{form}").ok()?;
-            return mark_of_form(&line.from(2), form, example);
-        }
-    }
-    let Some((form, example, _)) = lower.best_form(FORMS, LineFault::Syntax)? else {
-        return mark_of_stray(&lower);
+/// What was unexpected in the words of a line. Its form is that of the line in lower case, and if
+/// `send` and the flags are missing, that of the line with them.
+fn mark_of_words(alloc: Global, reader: Reader, text: &[u8]) -> Result<Mark> {
+    let line = Line::new(alloc, reader, text, 0)?;
+    let lower = text.to_ascii_lowercase(alloc)?;
+    let (head, begin) = match (line.at(0), line.at(2)) {
+        ((_, b"send"), (begin, _)) => ("", begin),
+        _ => ("send 0 ", "send 0 ".len()),
     };
-    let form = format!(in line.alloc; "{}{}", Shown(lower.word(0)), Shown(form)).ok()?;
-    mark_of_form(line, form, example)
+    let request = format!(in alloc; "{head}{}", Shown(&lower))?;
+    let request = Line::new(alloc, reader, request.as_bytes(), begin)?;
+    let lower = Line::new(alloc, reader, &lower, 0)?;
+    let ((column, word), (_, verb)) = (lower.at(0), request.at(0));
+    match (request.best_form(REQUESTS)?, lower.best_form(FORMS)?) {
+        (fit @ (_, _, 1..), _) if head.is_empty() => {
+            let line = Line::new(alloc, reader, text, begin)?;
+            mark_of_form(&line, "send <flags> ", verb, fit)
+        }
+        (_, fit @ (_, _, 1..)) => mark_of_form(&line, "", word, fit),
+        ((form, _, 1..), _) => {
+            let (verb, form) = (Shown(verb), Shown(form));
+            Ok((column, format!(in alloc; "{NO_FLAGS} {verb}{form}")?))
+        }
+        _ => mark_at(alloc, column, sentence_on_stray(word)),
+    }
 }
 
 /// What was unexpected in a line under the profile.
-fn mark_of_line(alloc: Global, profile: Profile, text: &[u8]) -> Option<Mark> {
+fn mark_of_line(alloc: Global, profile: Profile, text: &[u8]) -> Result<Mark> {
     let Some(column) = text.iter().position(|octet| !matches!(octet, b' '..=b'~')) else {
-        return mark_of_words(&Line::new(alloc, Some(profile), text));
+        return mark_of_words(alloc, Reader::Console(profile), text);
     };
-    let sentence = text_on_front(&text[column..], MARKS).unwrap_or(b"this is no plain ASCII");
+    let sentence = text_on(&text[column..], MARKS).unwrap_or(b"this is no plain ASCII");
     mark_at(alloc, column, sentence)
 }
 
@@ -191,21 +164,11 @@ pub fn hint_on_script<'a>(
     ensures within { IfSome result (λ hint. IsWithin hint.line.now hint.column) }
 {
     let number = u64::from(fault.line()?);
-    let (column, limit) = match fault {
-        ConsoleFault::LineTooLong(_) => {
-            let limit = format!(in alloc; "a line has at most {MAX_LINE_OCTETS} octets").ok()?;
-            (MAX_LINE_OCTETS, Some(limit))
-        }
-        ConsoleFault::TooManyLines => {
-            let limit = format!(in alloc; "a script has at most {MAX_LINES} lines").ok()?;
-            (0, Some(limit))
-        }
-        _ => (0, None),
-    };
     let line = line_at(text, number.saturating_sub(before));
-    let mark = match limit {
-        Some(limit) => (column, limit),
-        None => mark_of_line(alloc, profile, line)?,
+    let mark = match fault {
+        ConsoleFault::LineTooLong(_) => (MAX_LINE_OCTETS, format!(in alloc; "{fault}").ok()?),
+        ConsoleFault::TooManyLines => (0, format!(in alloc; "{fault}").ok()?),
+        _ => mark_of_line(alloc, profile, line).ok()?,
     };
     Some(Hint::new(Some(("line", number)), line, mark))
 }

@@ -2,7 +2,7 @@
 
 use crate::kept::{Keeps, Text};
 use ocp_hints::{hint_on_image, hint_on_script, hint_on_text};
-use ocp_ports::ConsoleFault;
+use ocp_ports::{ConsoleFault, MAX_INPUT};
 use ocp_words::Job;
 
 /// How much of its input a job's hints need.
@@ -27,6 +27,10 @@ pub(crate) fn say_hint<E: Eprint + AllocGlobal>(
     let hint = match (job, fault) {
         (Job::Run(settings), Some(fault)) => {
             hint_on_script(alloc, settings.profile, fault, text, kept.before())
+        }
+        (Job::Assemble(_) | Job::List, None) if text.len() > MAX_INPUT => {
+            let _ = eprintln!(rt; "the input: an input has at most {MAX_INPUT} octets");
+            None
         }
         (Job::Assemble(profile), None) => hint_on_text(alloc, profile, text),
         (Job::List, None) => hint_on_image(alloc, text),

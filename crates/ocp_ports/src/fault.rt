@@ -17,9 +17,9 @@ pub const MAX_LINE_OCTETS: usize = 40_000;
 /// Why a run ended. The first three are the script's, in this order for each line in turn.
 #[derive(Debug, Drop, Error)]
 pub enum ConsoleFault {
-    #[error("there are more than 100,000 lines")]
+    #[error("a script has at most 100,000 lines")]
     TooManyLines,
-    #[error("line {0} has more than 40,000 octets")]
+    #[error("a line has at most 40,000 octets")]
     LineTooLong(u32),
     #[error("line {0} is no command of the console")]
     Syntax(u32),
