@@ -48,14 +48,9 @@ fn read_telecommand(alloc: Global, apid: Apid, packet: &[u8]) -> Answer {
 }
 
 fn show_telecommand(alloc: Global, tc: &Tc) -> Answer {
-    let (id, apid, count) = (tc.id(), tc.apid().number(), tc.count().number());
-    let (ack, service, subtype, source) = (
-        tc.ack().bits(),
-        tc.service(),
-        tc.subtype(),
-        tc.source(),
-    );
-    let (id, data) = (Octets(&id), Octets(tc.payload()));
+    let (id, apid, count) = (Octets(&tc.id), tc.apid.number(), tc.count.number());
+    let (ack, service, subtype) = (tc.ack.bits(), tc.service, tc.subtype);
+    let (source, data) = (tc.source, Octets(tc.payload));
     text!(alloc; "Ok", id, apid, count, ack, service, subtype, source, data)
 }
 

@@ -3,7 +3,7 @@
 ghost use Rattle.std.specs.Prelude.{◌≡◌, ◌≤◌, ◌+◌, ◌*◌, ◌==◌, if◌then◌else◌, length, drop, Ok, Err, MatchResult, IfOk, IfErr, IsTrue, IsFalse};
 ghost use Rattle.byteorder.specs.Endian.{big_number};
 ghost use Rattle.obcp_messages.specs.Fields.{numbers};
-ghost use Rattle.obcp_messages.specs.Reading.{activation_in, is_counted, with_budget, with_octets, with_words, request_of};
+ghost use Rattle.obcp_messages.specs.Reading.{activation_in, is_counted, with_budget, with_octets, with_words, request_in, request_of};
 ghost use Rattle.obcp_messages.specs.Request.{IsRequestData, HasRequestFault};
 ghost use Rattle.obcp_messages.specs.declared.request.Request.{Request};
 ghost use Rattle.obcp_messages.specs.declared.payload.TheConstants.{MAX_CODE_LENGTH};
@@ -124,18 +124,10 @@ fn communicate(octets: &[u8]) -> Result<Request<'_>, RequestFault>
     Ok(Request::Communicate { id, words })
 }
 
-/// The request of this service and subtype that the data are.
-fn request_of(
-    profile: Profile,
-    service: u8,
-    subtype: u8,
-    octets: &[u8],
-) -> Result<Request<'_>, RequestFault>
-    ensures { result ≡ request_of profile service subtype octets.now }
+/// The request of this subtype that the data are.
+fn request_in(profile: Profile, subtype: u8, octets: &[u8]) -> Result<Request<'_>, RequestFault>
+    ensures { result ≡ request_in profile subtype octets.now }
 {
-    if service != SERVICE {
-        return Err(RequestFault::Service);
-    }
     match subtype {
         1 => load(octets),
         2 => Ok(Request::Unload {
@@ -166,6 +158,22 @@ fn request_of(
     }
 }
 
+/// The request of this service and subtype that the data are.
+fn request_of(
+    profile: Profile,
+    service: u8,
+    subtype: u8,
+    octets: &[u8],
+) -> Result<Request<'_>, RequestFault>
+    ensures found { IfOk result (IsRequestData profile service subtype octets.now) }
+    ensures value { result ≡ request_of profile service subtype octets.now }
+{
+    if service != SERVICE {
+        return Err(RequestFault::Service);
+    }
+    request_in(profile, subtype, octets)
+}
+
 /// The request that a telecommand carries. Refused as `Service` if the service is not 18, else as
 /// `Subtype` if the subtype is no request's, else as `Layout` if the data have another length than
 /// the request's fields, or a number is out of its range (ECSS-E-ST-70-41C, 8.18). An activation
@@ -181,6 +189,5 @@ pub fn read_request<'a>(profile: Profile, tc: &Tc<'a>) -> Result<Request<'a>, Re
     // The same as a function, for definitions over the octets of requests.
     ensures reads { result ≡ request_of profile tc.now.service tc.now.subtype tc.now.payload }
 {
-    let octets = tc.payload();
-    request_of(profile, tc.service(), tc.subtype(), octets)
+    request_of(profile, tc.service, tc.subtype, tc.payload)
 }

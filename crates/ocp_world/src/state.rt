@@ -288,9 +288,9 @@ impl<A: Allocator> State<A> {
         match read {
             Ok(telecommand) => {
                 let origin = Origin {
-                    request: telecommand.id(),
-                    ack: telecommand.ack(),
-                    destination: telecommand.source(),
+                    request: telecommand.id,
+                    ack: telecommand.ack,
+                    destination: telecommand.source,
                     time,
                 };
                 match read_request(self.table.profile(), &telecommand) {

@@ -1,16 +1,16 @@
 -- What is read as a telecommand.
-use Rattle.std.proofs.Common.{◌≡◌, ◌<◌, ◌≤◌, ℕ, ◌+◌, ◌*◌, ◌/◌, ◌%◌, ◌^◌, true, false, eqb, List, ◌∷◌, ◌++◌, length, take, drop, slice_index, refl, sym, ap, subst, ◌∙◌, arith, Option, Some, None, Ok, Err, eq-eqb}
+use Rattle.std.proofs.Common.{◌≡◌, ◌<◌, ◌≤◌, ℕ, ◌+◌, ◌*◌, ◌/◌, ◌%◌, ◌^◌, true, false, eqb, List, [], ◌∷◌, ◌++◌, length, take, drop, slice_index, refl, sym, ap, subst, ◌∙◌, arith, Option, Some, None, Ok, Err, eq-eqb}
 use Rattle.byteorder.specs.Endian.{big_bytes, big_number}
 use Rattle.space_packet.specs.declared.primary.Primary.{Primary}
 use Rattle.space_packet.specs.declared.fault.PacketFault.{PacketFault}
-use Rattle.space_packet.specs.Packet.{IsPacket, packet_in}
+use Rattle.space_packet.specs.Packet.{IsPacket, bit, flags_number, packet_in}
 use Rattle.pus_fields.specs.declared.fault.Discard.TheVariants.{NotTelecommand, OtherApid}
 use Rattle.pus_fields.specs.declared.fault.Rejection.{Rejection}
 use Rattle.pus_fields.specs.declared.fault.TcFault.TheVariants.{Discarded, Rejected}
 use Rattle.pus_fields.specs.Acknowledgement.{flags, flags_of}
 use Rattle.pus_fields.specs.Controlled.{whole_header}
-use Rattle.pus_fields.specs.Rejections.{IsSound, last_two, rejection_of}
-use Rattle.pus_fields.specs.Telecommand.{IsTelecommand, Telecommand, telecommand_secondary}
+use Rattle.pus_fields.specs.Rejections.{IsSound, IsWhole, last_two, rejection_of}
+use Rattle.pus_fields.specs.Telecommand.{IsTelecommand, Telecommand, request_id, telecommand_secondary}
 use Rattle.pus_fields.specs.TelecommandFaults.{discard_of, telecommand_answer, telecommand_in, telecommand_of, unless_rejected}
 use Rattle.pus_fields.proofs.Controlled.{none_rejected, sound_controlled}
 use Rattle.pus_fields.proofs.Fields.{AreOctets, between-is, field_split, octets-drop}
@@ -103,3 +103,27 @@ sound_is octets header field packet sound t apid h =
       in_range = record { apid = apid; count = omega (arith, packet.count); ack = omega arith; service = fields 1; subtype = fields 2; source = omega (arith, octets-drop 3 field fields 0, octets-drop 3 field fields 1) };
       controlled = sound_controlled 7 octets true header field (telecommand_secondary tc ++ tc.payload) packet sound t h whole;
     }
+
+-- six octets whose number has the fields of a telecommand's header begin with its request identifier
+id_in_head : (a b c d e f apid count : ℕ) → a < 256 → b < 256 → c < 256 → d < 256 → e < 256 → f < 256
+    → let n = (((((0 * 256 + a) * 256 + b) * 256 + c) * 256 + d) * 256 + e) * 256 + f in
+    n / 2 ^ 45 % 2 ^ 3 ≡ 0 → n / 2 ^ 44 % 2 ≡ 1 → n / 2 ^ 43 % 2 ≡ 1 → n / 2 ^ 32 % 2 ^ 11 ≡ apid → n / 2 ^ 30 % 2 ^ 2 ≡ 3 → n / 2 ^ 16 % 2 ^ 14 ≡ count
+    → a ∷ b ∷ c ∷ d ∷ [] ≡ request_id apid count
+id_in_head a b c d e f apid count al bl cl dl el fl version telecommand secondary process flags counted =
+    let n = (((((0 * 256 + a) * 256 + b) * 256 + c) * 256 + d) * 256 + e) * 256 + f in
+    let low : n / 2 ^ 16 ≡ ((a * 256 + b) * 256 + c) * 256 + d = omega (arith, el, fl) in
+    let high : n / 2 ^ 32 ≡ a * 256 + b = omega (arith, cl, dl, el, fl) in
+    let first : a * 256 + b ≡ 2 ^ 12 + 2 ^ 11 + apid = omega (arith, high, al, bl, version, telecommand, secondary, process) in
+    let second : c * 256 + d ≡ 3 * 2 ^ 14 + count = omega (arith, low, cl, dl, flags, counted) in
+    let one : a ≡ (2 ^ 12 + 2 ^ 11 + apid) / 256 % 256 = omega (arith, first, al, bl) in
+    let two : b ≡ (2 ^ 12 + 2 ^ 11 + apid) % 256 = omega (arith, first, bl) in
+    let three : c ≡ (3 * 2 ^ 14 + count) / 256 % 256 = omega (arith, second, cl, dl) in
+    let four : d ≡ (3 * 2 ^ 14 + count) % 256 = omega (arith, second, dl) in
+    λ i. one i ∷ two i ∷ three i ∷ four i ∷ []
+
+-- a telecommand packet that is unsegmented and has a secondary header begins with its request identifier
+pub id_is : (octets : List ℕ) (header : Primary) (field : List ℕ) → IsPacket octets header field → IsWhole 7 header field → header.telecommand ≡ true → 7 ≤ length octets → AreOctets octets
+    → take 4 octets ≡ request_id header.apid header.count
+id_is (a ∷ b ∷ c ∷ d ∷ e ∷ f ∷ rest) header field packet whole t le h =
+    id_in_head a b c d e f header.apid header.count (h 0) (h 1) (h 2) (h 3) (h 4) (h 5) packet.version (packet.telecommand ∙ ap bit t) (packet.secondary ∙ ap bit whole.secondary) packet.apid (packet.flags ∙ ap flags_number whole.unsegmented) packet.count
+id_is _ header field packet whole t le h = absurd (omega (arith, le))

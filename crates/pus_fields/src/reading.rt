@@ -38,24 +38,22 @@ pub fn read_tc<'a>(apid: Apid, octets: &'a [u8]) -> Result<Tc<'a>, TcFault>
     if header.apid != apid {
         return Err(TcFault::Discarded(Discard::OtherApid));
     }
+    let id = [octets[0], octets[1], octets[2], octets[3]];
     if let Some(why) = rejection(7, octets, &header, field) {
-        let id = [octets[0], octets[1], octets[2], octets[3]];
         return Err(TcFault::Rejected(why, id));
     }
-    let ack = Ack::from_bits_retain(field[0] % 16);
+    let (count, ack) = (header.count, Ack::from_bits_retain(field[0] % 16));
     let (service, subtype) = (field[1], field[2]);
-    match Tc::new(
-        header.apid,
-        header.count,
+    Ok(Tc {
+        id,
+        apid,
+        count,
         ack,
         service,
         subtype,
-        BigEndian::read_u16(&field[3..]),
-        &field[5..field.len() - 2],
-    ) {
-        Some(tc) => Ok(tc),
-        None => unreachable!(),
-    }
+        source: BigEndian::read_u16(&field[3..]),
+        payload: &field[5..field.len() - 2],
+    })
 }
 
 /// The telemetry that the octets are (CCSDS 133.0-B, 4.1; ECSS-E-ST-70-41C, 7.4.3). Refusals, in

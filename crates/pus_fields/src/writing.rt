@@ -52,7 +52,7 @@ pub fn write_tc<A: Allocator>(tc: &Tc, out: &mut Vec<u8, A>) -> Result<(), Write
     ensures same_capacity { OnErr result (vec_capacity out.new ≡ vec_capacity out.old) }
     ensures capacity { vec_capacity out.old ≤ vec_capacity out.new }
 {
-    let payload = tc.payload();
+    let (service, subtype, payload) = (tc.service, tc.subtype, tc.payload);
     if payload.len() > MAX_TELECOMMAND_DATA {
         return Err(WriteFault::TooLong);
     }
@@ -60,12 +60,12 @@ pub fn write_tc<A: Allocator>(tc: &Tc, out: &mut Vec<u8, A>) -> Result<(), Write
         .map_err(|_| WriteFault::Memory)?;
     written_octets_are_the_packet();
     let start = out.len();
-    out.extend_from_slice(&tc.id()).unwrap();
+    out.extend_from_slice(&tc.id).unwrap();
     out.extend_from_slice(&((payload.len() + 6) as u16).to_be_bytes())
         .unwrap();
-    out.extend_from_slice(&[VERSION_OCTET + tc.ack().bits(), tc.service(), tc.subtype()])
+    out.extend_from_slice(&[VERSION_OCTET + tc.ack.bits(), service, subtype])
         .unwrap();
-    out.extend_from_slice(&tc.source().to_be_bytes()).unwrap();
+    out.extend_from_slice(&tc.source.to_be_bytes()).unwrap();
     out.extend_from_slice(payload).unwrap();
     append_error_control(out, start);
     Ok(())

@@ -1,10 +1,11 @@
-use Rattle.std.proofs.Common.{true, ◌≡◌, ◌≤◌, ◌∙◌, ap, sym, length, arith, refl, Err, Ok, eqb-true}
+use Rattle.std.proofs.Common.{true, ℕ, ◌≡◌, ◌≤◌, ◌∙◌, ap, sym, length, arith, refl, Err, Ok, eqb-true}
 use Rattle.std.proofs.lemmas.List.{take_rest}
 use Rattle.byteorder.specs.Endian.{big_number}
 use Rattle.pus_fields.specs.Controlled.{whole_header}
+use Rattle.pus_fields.specs.Telecommand.{Telecommand, request_id}
 use Rattle.pus_fields.specs.TelecommandFaults.{telecommand_in}
 use Rattle.pus_fields.proofs.Fields.{four, not-false, not-true, packet-length}
-use Rattle.pus_fields.proofs.ReadTelecommand.{same_telecommand, sound_is, tc_accepted, tc_is_read, tc_no_packet, tc_not_telecommand, tc_other, tc_rejected}
+use Rattle.pus_fields.proofs.ReadTelecommand.{id_is, same_telecommand, sound_is, tc_accepted, tc_is_read, tc_no_packet, tc_not_telecommand, tc_other, tc_rejected}
 use Rattle.pus_fields.proofs.reading.read_tc.Goals as goal
 
 pub returns-in-Err-clause-value : goal.returns-in-Err-clause-value
@@ -34,13 +35,25 @@ returns-in-Some-clause-err c =
     let ours : c.in-Ok.found.0.apid ≡ c.args.apid = eqb-true _ _ (not-false _ c.if-ne.ensures) in
     (four octets long, (c.in-Ok.found.0, c.in-Ok.found.1.now, c.in-Ok.ensures.ok, (c.if-not-header.false, ours, c.in-Some.ensures.reason)))
 
+pub invariant_of-result : goal.invariant_of-result
+invariant_of-result c =
+    let octets = c.args.octets.now in
+    let long = packet-length octets _ _ c.in-Ok.ensures.ok in
+    let ours : c.in-Ok.found.0.apid ≡ c.args.apid = eqb-true _ _ (not-false _ c.if-ne.ensures) in
+    let sound = c.in_default.ensures.reason in
+    let id = four octets (omega (arith, long)) ∙ id_is octets _ _ c.in-Ok.ensures.ok sound.whole c.if-not-header.false long (λ i. omega (arith, c.type_inv.octets i)) in
+    (omega (arith, c.requires), omega (arith, c.in-Ok.ensures.ok.count), omega (arith, c.from_bits_retain-ack.ensures tt), id ∙ ap (λ (apid : ℕ). request_id apid c.in-Ok.found.0.count) ours)
+
 pub returns-clause-value : goal.returns-clause-value
 returns-clause-value c =
-    let said = c.in-Some-new.ensures.1 ∙ same_telecommand _ (telecommand_in c.in-Ok.found.0.apid c.in-Ok.found.0.count c.in-Ok.found.1.now) refl refl (c.from_bits_retain-ack.ensures tt) refl refl (c.read_u16.ensures ∙ ap (big_number 2) (take_rest c.in-Ok.found.1.now 3)) refl in
+    let ours : c.in-Ok.found.0.apid ≡ c.args.apid = eqb-true _ _ (not-false _ c.if-ne.ensures) in
+    let tc : Telecommand = record { apid = c.args.apid; count = c.in-Ok.found.0.count; ack = c.from_bits_retain-ack.result; service = _; subtype = _; source = c.read_u16.result; payload = _ } in
+    let said = same_telecommand tc (telecommand_in c.in-Ok.found.0.apid c.in-Ok.found.0.count c.in-Ok.found.1.now) (sym ours) refl (c.from_bits_retain-ack.ensures tt) refl refl (c.read_u16.ensures ∙ ap (big_number 2) (take_rest c.in-Ok.found.1.now 3)) refl in
     ap Ok said ∙ tc_accepted c.args.apid c.args.octets.now _ _ c.in-Ok.ensures.value c.if-not-header.false (not-false _ c.if-ne.ensures) c.in_default.ensures.value
 
 pub returns-clause-ok : goal.returns-clause-ok
 returns-clause-ok c =
-    let said = c.in-Some-new.ensures.1 ∙ same_telecommand _ (telecommand_in c.in-Ok.found.0.apid c.in-Ok.found.0.count c.in-Ok.found.1.now) refl refl (c.from_bits_retain-ack.ensures tt) refl refl (c.read_u16.ensures ∙ ap (big_number 2) (take_rest c.in-Ok.found.1.now 3)) refl in
     let ours : c.in-Ok.found.0.apid ≡ c.args.apid = eqb-true _ _ (not-false _ c.if-ne.ensures) in
-    rw said (sound_is c.args.octets.now _ _ c.in-Ok.ensures.ok c.in_default.ensures.reason c.if-not-header.false (omega (arith, ours, c.requires)) (λ i. omega (arith, c.type_inv.octets i)), ours)
+    let tc : Telecommand = record { apid = c.args.apid; count = c.in-Ok.found.0.count; ack = c.from_bits_retain-ack.result; service = _; subtype = _; source = c.read_u16.result; payload = _ } in
+    let said = same_telecommand tc (telecommand_in c.in-Ok.found.0.apid c.in-Ok.found.0.count c.in-Ok.found.1.now) (sym ours) refl (c.from_bits_retain-ack.ensures tt) refl refl (c.read_u16.ensures ∙ ap (big_number 2) (take_rest c.in-Ok.found.1.now 3)) refl in
+    rw said (sound_is c.args.octets.now _ _ c.in-Ok.ensures.ok c.in_default.ensures.reason c.if-not-header.false (omega (arith, ours, c.requires)) (λ i. omega (arith, c.type_inv.octets i)), refl)
