@@ -169,8 +169,6 @@ pub fn disassemble<A: Allocator>(code: &[u8], out: &mut Vec<u8, A>) -> Result<()
     if !reserve_room(out, written?) {
         return Err(DisassembleFault::Memory);
     }
-    match write_lines(code, out) {
-        Ok(_) => Ok(()),
-        Err(_) => unreachable!(),
-    }
+    write_lines(code, out).unwrap();
+    Ok(())
 }

@@ -72,10 +72,7 @@ impl From<StartFailure> for StartFault {
     fn from(failure: StartFailure) -> StartFault {
         match failure {
             StartFailure::BadCode { fault, slot } => StartFault::BadCode { fault, slot },
-            _ => match PlainCode::new(failure.code()) {
-                Some(code) => StartFault::Plain(code),
-                None => unreachable!(),
-            },
+            _ => StartFault::Plain(PlainCode::new(failure.code()).unwrap()),
         }
     }
 }

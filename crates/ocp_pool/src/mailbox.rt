@@ -58,10 +58,7 @@ impl Mailbox {
         requires { length self.old + length words.now ≤ MAX_MAILBOX_WORDS }
         ensures { self.new ≡ self.old ++ words.now }
     {
-        match self.words.try_extend_from_slice(words) {
-            Ok(()) => {}
-            Err(_) => unreachable!(),
-        }
+        self.words.try_extend_from_slice(words).unwrap();
     }
 
     /// Removes and returns the oldest word, if there is one.

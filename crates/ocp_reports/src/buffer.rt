@@ -5,7 +5,7 @@ ghost use Rattle.pus_fields.specs.Telemetry.{telemetry_octets};
 ghost use Rattle.ocp_reports.specs.Packets.{IsTelemetryPacket, together};
 ghost use Rattle.ocp_reports.specs.Room.{HasRoomAfter};
 
-use pus_fields::{Tm, WriteFault, telemetry_octets_are_read_back, write_tm};
+use pus_fields::{Tm, telemetry_octets_are_read_back, write_tm};
 use std::alloc::{AllocError, Allocator, Global};
 use std::marker::Model;
 
@@ -64,14 +64,9 @@ impl<A: Allocator> PacketBuffer<A> {
     {
         telemetry_octets_are_read_back();
         let start = self.octets.len();
-        match write_tm(telemetry, &mut self.octets) {
-            Ok(()) => {
-                let length = self.octets.len() - start;
-                self.lengths.push_reserved(length as u16);
-            }
-            Err(WriteFault::Memory) => unreachable!(),
-            Err(WriteFault::TooLong) => unreachable!(),
-        }
+        write_tm(telemetry, &mut self.octets).unwrap();
+        let length = self.octets.len() - start;
+        self.lengths.push_reserved(length as u16);
     }
 
     /// How many packets there are.

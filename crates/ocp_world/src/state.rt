@@ -103,9 +103,7 @@ impl<A: Allocator + Copy> State<A> {
         requires few { words ≤ MAX_POOL_WORDS }
         ensures { IfOk result (IsWorld (opening profile apid words)) }
     {
-        let Some(count) = SequenceCount::new(0) else {
-            unreachable!()
-        };
+        let count = SequenceCount::new(0).unwrap();
         Ok(State {
             table: Table::new(alloc, profile)?,
             pool: Pool::new(alloc, words)?,
@@ -199,9 +197,7 @@ impl<A: Allocator> State<A> {
         }
         let result = self.reply(keeper, origin, Outcome::Done, &None, packets);
         if result.is_err() {
-            let Ok(()) = self.table.unload(id) else {
-                unreachable!()
-            };
+            self.table.unload(id).unwrap();
         }
         result
     }
@@ -256,9 +252,7 @@ impl<A: Allocator> State<A> {
                 self.direct(keeper, origin, id, directive, packets)
             }
             Request::Status => {
-                let Some(rows) = StatusRows::new(self.table.statuses()) else {
-                    unreachable!()
-                };
+                let rows = StatusRows::new(self.table.statuses()).unwrap();
                 let report = Some(Report::Status { rows });
                 self.reply(keeper, origin, Outcome::Done, &report, packets)
             }
