@@ -110,8 +110,7 @@ impl<L: Naming, A: Allocator> Book<L, A> {
             return Err(TakeFault::NoneRunning);
         };
         let ticket = match self.engine.ticket(alloc, id) {
-            Ok(Some(ticket)) => ticket,
-            Ok(None) => unreachable!(),
+            Ok(ticket) => ticket.unwrap(),
             Err(_) => return Err(TakeFault::Memory),
         };
         self.taken = Some(id);
