@@ -53,6 +53,8 @@ fn register_after_octets(register: u16, octets: &[u8]) -> u16
 
 /// The error control of the octets (ECSS-E-ST-70-41C, annex B): the remainder of the polynomial of
 /// their bits, followed by 16 zeros, the first 16 inverted, by x^16 + x^12 + x^5 + 1.
+// Not inlined, so that its loop has all registers.
+#[inline(never)]
 pub fn crc16(octets: &[u8]) -> u16
     ensures check { IsErrorControl octets.now result }
     ensures value { result ≡ error_control octets.now }

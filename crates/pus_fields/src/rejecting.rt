@@ -13,8 +13,6 @@ use space_packet::{Primary, SequenceFlags};
 const PUS_VERSION: u8 = 2;
 
 /// Why the packet with this header and this data field, which needs `least` octets, is rejected.
-// Not inlined, so that the loop of the error control has all registers.
-#[inline(never)]
 pub(crate) fn rejection(
     least: usize,
     octets: &[u8],
