@@ -21,7 +21,7 @@ use Rattle.ocp_table.specs.declared.answers.InstructionOutcome.{InstructionOutco
 use Rattle.ocp_table.specs.declared.answers.InstructionOutcome.TheVariants.{Broke, Ran, Faulted}
 use Rattle.ocp_table.specs.declared.fault.ProcedureFault.TheVariants.{BudgetSpent}
 use Rattle.ocp_table.specs.Budgets.{one_less, less, is_spent, IsWithin}
-use Rattle.ocp_table.specs.Records.{Rec, Records}
+use Rattle.ocp_table.specs.Records.{Execution, Rec, Records}
 use Rattle.ocp_table.specs.Effects.{Effect, Changed, Kept, Stepped, Failed, without_pass, records_by, outbox_by, dues_of, pool_by, record_after, with_change, machine_after, step_outcome}
 use Rattle.ocp_table.specs.RequestTable.{Step, transition}
 use Rattle.ocp_table.specs.Deciding.{outcome_of, outcome_in, effect_in, effect_by, effect_on, effect_of_step, is_full}
@@ -374,6 +374,13 @@ pub ran_some : (n : ℕ) (last : StepOutcome) → 1 ≤ n → last_ran n last �
 ran_some zero last h = absurd (omega (arith, h))
 ran_some (suc n) last h = refl
 
+-- the control after a stretch, by its pass flag
+control_on : (k : ℕ) (c : Control) (pass : Bool) → pass ≡ (c.pass && (k == 0)) → record c { pass = pass } ≡ control_after k c
+control_on k c pass is = λ i. record (kept i) { pass = (is ∙ sym (pass_after k c)) i }
+  where
+    kept : record c { pass = false } ≡ record (control_after k c) { pass = false }
+    kept = sym (passed_after k c)
+
 module _ {A : Type 0} where
   -- n events are made, and the slice or round goes on
   pub record IsSliced (extent : Extent) (old now : Record A) (outbox filed : List Due) (pool left : List ℕ) (n : ℕ) (last : StepOutcome) : Type 0 where
@@ -390,24 +397,49 @@ module _ {A : Type 0} where
     unended = λ m held is. unended-none r.id (record { records = m; outbox = outbox; pool = pool });
   }
 
-  -- a stretch that the machine does by itself
-  pub sliced-run : (extent : Extent) (old now next : Record A) (outbox filed : List Due) (pool left : List ℕ) (n k : ℕ) (last : StepOutcome) (t : State) → IsSliced extent old now outbox filed pool left n last → IsWithin now.remaining k → local_run now.execution.image now.breakpoints.items now.control.pass now.execution.machine k ≡ Some t → record_of next ≡ with_machine k t (record_of now) → next.id ≡ now.id → IsSliced extent old next outbox filed pool left (n + k) (last_ran k last)
-  sliced-run extent old now next outbox filed pool left n k last t so_far inside ran made same = record {
-    running = ap (λ r. r.control.status) made ∙ status_after k now.control ∙ so_far.running;
-    named = same ∙ so_far.named;
-    leads = λ m held.
-        let id = old.id in
-        let held_now = get-put m id (record_of now) in
-        let on = local_leads (map.insert m id (record_of now)) filed left id (record_of now) held_now so_far.running last k t inside ran in
-        let same_records : map.insert (map.insert m id (record_of now)) id (with_machine k t (record_of now)) ≡ map.insert m id (record_of next) =
-        put-put m id (record_of now) (with_machine k t (record_of now)) ∙ ap (map.insert m id) (sym made) in
-        leads-on id n k _ _ _ S.Ran last (last_ran k last) (so_far.leads m held)
-        (subst (λ x. Leads id k (record { records = map.insert m id (record_of now); outbox = filed; pool = left }) last (record { records = x; outbox = filed; pool = left }) (last_ran k last)) same_records on);
-    unended = λ m held is.
-        let id = old.id in
-        unended-on id n k _ _ (so_far.leads m held).store (so_far.unended m held is)
-        (local_unended (map.insert m id (record_of now)) filed left id (record_of now) (get-put m id (record_of now)) so_far.running last k t inside ran);
+  -- a record with what a stretch writes: its execution, the pass flag, and what is left of the budget
+  abbrev pub with_stretch : Record A → Execution → Bool → Option ℕ → Record A
+  with_stretch r execution pass remaining = record r {
+    control = record r.control { pass = pass };
+    remaining = remaining;
+    execution = execution;
   }
+
+  -- a stretch, as the call ensures it
+  pub record IsStretch (now : Record A) (breakpoints : List ℕ) (execution : Execution) (pass : Bool) (remaining : Option ℕ) (k : ℕ) : Type 0 where
+    pub places : breakpoints ≡ now.breakpoints.items
+    pub ran : local_run now.execution.image breakpoints now.control.pass now.execution.machine k ≡ Some execution.machine
+    pub within : IsWithin now.remaining k
+    pub image : execution.image ≡ now.execution.image
+    pub passed : pass ≡ (now.control.pass && (k == 0))
+    pub taken : remaining ≡ less k now.remaining
+
+  record_on : (now : Record A) (breakpoints : List ℕ) (execution : Execution) (pass : Bool) (remaining : Option ℕ) (k : ℕ) → IsStretch now breakpoints execution pass remaining k → record_of (with_stretch now execution pass remaining) ≡ with_machine k execution.machine (record_of now)
+  record_on now breakpoints execution pass remaining k stretch =
+      let control = control_on k now.control pass stretch.passed in
+      λ i. record (record_of now) { image = stretch.image i; machine = execution.machine; control = control i; remaining = stretch.taken i }
+
+  -- a stretch that the machine does by itself
+  pub sliced-run : (extent : Extent) (old now : Record A) (outbox filed : List Due) (pool left : List ℕ) (n : ℕ) (last : StepOutcome) (breakpoints : List ℕ) (execution : Execution) (pass : Bool) (remaining : Option ℕ) (k : ℕ) → IsSliced extent old now outbox filed pool left n last → IsStretch now breakpoints execution pass remaining k → IsSliced extent old (with_stretch now execution pass remaining) outbox filed pool left (n + k) (last_ran k last)
+  sliced-run extent old now outbox filed pool left n last breakpoints execution pass remaining k so_far stretch =
+      let ran = subst (λ places. local_run now.execution.image places now.control.pass now.execution.machine k ≡ Some execution.machine) stretch.places stretch.ran in
+      record {
+        running = so_far.running;
+        named = so_far.named;
+        leads = λ m held.
+            let id = old.id in
+            let t = execution.machine in
+            let held_now = get-put m id (record_of now) in
+            let on = local_leads (map.insert m id (record_of now)) filed left id (record_of now) held_now so_far.running last k t stretch.within ran in
+            let same_records : map.insert (map.insert m id (record_of now)) id (with_machine k t (record_of now)) ≡ map.insert m id (record_of (with_stretch now execution pass remaining)) =
+            put-put m id (record_of now) (with_machine k t (record_of now)) ∙ ap (map.insert m id) (sym (record_on now breakpoints execution pass remaining k stretch)) in
+            leads-on id n k _ _ _ S.Ran last (last_ran k last) (so_far.leads m held)
+            (subst (λ x. Leads id k (record { records = map.insert m id (record_of now); outbox = filed; pool = left }) last (record { records = x; outbox = filed; pool = left }) (last_ran k last)) same_records on);
+        unended = λ m held is.
+            let id = old.id in
+            unended-on id n k _ _ (so_far.leads m held).store (so_far.unended m held is)
+            (local_unended (map.insert m id (record_of now)) filed left id (record_of now) (get-put m id (record_of now)) so_far.running last k execution.machine stretch.within ran);
+      }
 
   -- one event, as the call ensures it
   pub record IsEvent (now next : Record A) (outbox filed : List Due) (pool left : List ℕ) (o : StepOutcome) (step : Option ℕ) : Type 0 where

@@ -12,7 +12,7 @@ pub use Rattle.ocp_regions.specs.declared.fault.AccessFault.TheVariants.{AccessO
 pub use Rattle.ocp_regions.specs.declared.fault.AccessFault.TheVariants.{WriteToArguments}
 pub use Rattle.bpf_step.specs.Machine.{machine_at_restart, HasAddressesOf, State, machine_at_start}
 pub use Rattle.bpf_step.specs.Step.{one_step, StandsIn}
-pub use Rattle.bpf_step.specs.Runs.{local_run, local_count, breaks_at}
+pub use Rattle.bpf_step.specs.Runs.{local_run, breaks_at}
 pub use Rattle.bpf_step.specs.declared.answer.MachineFault.TheVariants.{Access, CallDepth}
 pub use Rattle.ocp_pool.specs.declared.call.PoolFault.TheVariants.{BadPoolIndex}
 pub use Rattle.ocp_table.specs.Effects.{Kept, Failed, step_outcome, step_outcome_of, record_by}
@@ -30,7 +30,7 @@ pub use Rattle.ocp_table.specs.Slices.{is_running_status, IsSlice, is_traced, is
 pub use Rattle.ocp_table.specs.Slices.{slice_count, slice_last, store_of, store_after_events}
 pub use Rattle.ocp_table.specs.Slices.{step_ended_by, step_ended, step_at, most_events, ends_with}
 pub use Rattle.ocp_table.specs.Slices.{slice_of}
-pub use Rattle.ocp_table.specs.Budgets.{less, within, IsWithin}
+pub use Rattle.ocp_table.specs.Budgets.{less, IsWithin}
 pub use Rattle.ocp_table.specs.Outbox.{HasPlaceBeside, pendings, has_no_place}
 pub use Rattle.ocp_table.specs.Deciding.{decision_on, outcome_of, effect_in, status_of, outcome_in}
 pub use Rattle.ocp_table.specs.Deciding.{outcome_unheld, Executes, ExecutesStep, is_full}

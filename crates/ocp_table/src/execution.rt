@@ -1,7 +1,8 @@
 //! A program and the machine that runs it.
-ghost use Rattle.std.specs.Prelude.{◌≡◌, ◌≤◌, ◌↔◌, ℕ, List, [], Err, Some, IfErr, IfOk, IsOk, IsSome, IsTrue, OnErr, OnOk, length};
-ghost use Rattle.ocp_table.specs.Clauses.{HasAddressesOf, StandsIn, load_result, local_count, local_run, machine_at_restart, machine_at_start, machine_by_outcome, mailbox_by_outcome, one_step, outcome_of, pool_by_outcome};
+ghost use Rattle.std.specs.Prelude.{◌≡◌, ◌≤◌, ◌==◌, ◌&&◌, ◌↔◌, ℕ, List, [], Err, Some, IfErr, IfOk, IsOk, IsSome, IsTrue, OnErr, OnOk, length};
+ghost use Rattle.ocp_table.specs.Clauses.{HasAddressesOf, IsWithin, StandsIn, less, load_result, local_run, machine_at_restart, machine_at_start, machine_by_outcome, mailbox_by_outcome, one_step, outcome_of, pool_by_outcome};
 
+use crate::budget::spend;
 use crate::{InstructionOutcome, ProcedureFault};
 use bpf_step::{Local, Machine, Need};
 use ocp_loader::{Lines, LoadFault, Program, places_lead_to_places};
@@ -163,17 +164,33 @@ impl<A: Allocator> Execution<A> {
         }
     }
 
-    /// Does instructions that need no engine, up to `budget`, and returns their number. It stops
-    /// before a breakpoint, but the pass flag lets the first instruction pass one.
+    /// Does instructions that need no engine, up to `budget` and what remains of the procedure's
+    /// budget, takes their number from what remains, and returns it. It stops before a breakpoint,
+    /// but the pass flag lets the first instruction pass one. The first one clears the flag.
     #[inline(always)]
-    pub(crate) fn advance(&mut self, breakpoints: &[u16], pass: bool, budget: u32) -> u32
-        ensures ran { local_run self.old.image breakpoints.now pass self.old.machine result ≡
+    #[tactic(auto, using(crate::proofs::Slicing::local_count_within, crate::proofs::Budgets::within_most, crate::proofs::Budgets::within_left))]
+    pub(crate) fn advance(
+        &mut self,
+        breakpoints: &[u16],
+        pass: &mut bool,
+        remaining: &mut Option<u32>,
+        budget: u32,
+    ) -> u32
+        ensures ran { local_run self.old.image breakpoints.now pass.old self.old.machine result ≡
             Some self.new.machine }
-        ensures count { result ≡
-            local_count self.old.image breakpoints.now pass self.old.machine budget }
+        ensures within { result ≤ budget }
+        ensures left { IsWithin remaining.old result }
         ensures image { self.new.image ≡ self.old.image }
+        ensures pass { pass.new ≡ (pass.old && (result == 0)) }
+        ensures remaining { remaining.new ≡ less result remaining.old }
     {
-        self.machine.run(&self.program, breakpoints, pass, budget)
+        let most = remaining.map_or(budget, |left| budget.min(left));
+        let count = self.machine.run(&self.program, breakpoints, *pass, most);
+        if count > 0 {
+            *pass = false;
+        }
+        spend(count, remaining);
+        count
     }
 
     /// The program.

@@ -1,9 +1,9 @@
 //! Instructions of a procedure that is found once.
-ghost use Rattle.std.specs.Prelude.{◌≡◌, ◌≤◌, ◌+◌, ◌++◌, Some, true, false};
-ghost use Rattle.ocp_table.specs.Clauses.{HasPlaceBeside, IsSlice, IsWithin, Records, Running, Step, dues_of_effect, effect_of_record, get, is_done, is_on, is_running_status, local_run, most_events, pool_by, record_after, record_of, slice_of, step_at, step_ended, step_outcome, Store, with_machine};
+ghost use Rattle.std.specs.Prelude.{◌≡◌, ◌≤◌, ◌++◌, Some, true};
+ghost use Rattle.ocp_table.specs.Clauses.{HasPlaceBeside, IsSlice, Records, Running, Step, dues_of_effect, effect_of_record, get, is_done, is_running_status, most_events, pool_by, record_after, record_of, slice_of, step_at, step_ended, step_outcome, Store};
 ghost use Rattle.ocp_table.specs.declared.answers.Extent.TheVariants as extents;
 
-use crate::budget::{less, within};
+use crate::budget::spend;
 use crate::outbox::{Outbox, file};
 use crate::{
     Called, Extent, InstructionAnswer, InstructionOutcome, Pool, ProcedureFault, Record, Round,
@@ -19,31 +19,6 @@ impl<A: Allocator> Record<A> {
         ensures { result ≡ is_running_status self.now.control.status }
     {
         matches!(self.control.status, Status::Running)
-    }
-
-    // Does instructions that need no engine, up to `budget` and what is left of the procedure's budget, and returns their number.
-    #[inline(always)]
-    #[tactic(auto, using(crate::proofs::Slicing::local_count_within, crate::proofs::Budgets::within_most, crate::proofs::Budgets::within_left))]
-    fn run(&mut self, budget: u32) -> u32
-        ensures ran { local_run self.old.execution.image self.old.breakpoints.items
-            self.old.control.pass self.old.execution.machine result ≡
-            Some self.new.execution.machine }
-        ensures record { record_of self.new ≡
-            with_machine result self.new.execution.machine (record_of self.old) }
-        ensures within { result ≤ budget }
-        ensures left { IsWithin self.old.remaining result }
-        ensures id { self.new.id ≡ self.old.id }
-    {
-        let pass = self.control.pass;
-        let most = within(self.remaining, budget);
-        let count = self
-            .execution
-            .advance(self.breakpoints.as_slice(), pass, most);
-        if count > 0 {
-            self.control.pass = false;
-        }
-        self.remaining = less(count, self.remaining);
-        count
     }
 
     /// One instruction event. What it completes or overtakes goes to the outbox.
@@ -79,7 +54,7 @@ impl<A: Allocator> Record<A> {
         match outcome {
             InstructionOutcome::Broke | InstructionOutcome::Faulted(_) => {}
             InstructionOutcome::Ran | InstructionOutcome::Called(_) | InstructionOutcome::Ended => {
-                self.remaining = less(1, self.remaining);
+                spend(1, &mut self.remaining);
             }
         }
         file(outbox, &self.control.pending, outcome);
@@ -126,7 +101,12 @@ impl<A: Allocator> Record<A> {
         let mut count = 0;
         let mut last = StepOutcome::Ran;
         while count < budget {
-            count += self.run(budget - count);
+            count += self.execution.advance(
+                self.breakpoints.as_slice(),
+                &mut self.control.pass,
+                &mut self.remaining,
+                budget - count,
+            );
             if count == budget {
                 return Round {
                     count,

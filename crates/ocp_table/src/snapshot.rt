@@ -4,7 +4,6 @@ ghost use Rattle.std.specs.Prelude.{◌≡◌, ◌↔◌, ◌⊎◌, IfOk, IsTru
 ghost use Rattle.ocp_table.specs.Clauses.{HasAddressesOf, IsWithin, StandsIn, count_of, record_of, snapshot_at};
 ghost use Rattle.ocp_table.specs.Snapshots.{run_of};
 
-use crate::budget::within;
 use crate::{Execution, MAX_BREAKPOINTS, Record};
 use arrayvec::ArrayVec;
 use bpf_step::Machine;
@@ -124,7 +123,7 @@ impl<A: Allocator> Snapshot<A> {
         let most = if self.traced {
             0
         } else {
-            within(self.remaining, budget)
+            self.remaining.map_or(budget, |left| budget.min(left))
         };
         machine.copy_from(self.execution.machine());
         let breakpoints = self.breakpoints.as_slice();
