@@ -41,14 +41,16 @@ pub fn instructions<S: Store, A: Allocator>(
     ensures world { IsWorld (world_of (S.log store.new)) state.new }
     ensures within { result.count ≤ budget }
 {
-    let place = state.table.place(id);
-    if let Some(last) = state.table.refusal(id, place) {
-        return Round {
-            count: 0,
-            last,
-            step: None,
-        };
-    }
+    let place = match state.table.running(id) {
+        Ok(place) => place,
+        Err(last) => {
+            return Round {
+                count: 0,
+                last,
+                step: None,
+            };
+        }
+    };
     if store.is_full(&Note::Steps { by, id, count: 1 }) {
         return Round {
             count: 0,

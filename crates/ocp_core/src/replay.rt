@@ -41,8 +41,9 @@ fn steps<A: Allocator>(state: &mut State<A>, id: u16, count: u32)
     ensures { (w : World) (by : ℕ) → IsWorld w state.old →
         IsWorld (replay_from w (replicate count (Step by id))) state.new }
 {
+    let place = state.table.place(id);
     for _done in 0..count {
-        state.instruction(id);
+        state.instruction(id, place);
     }
 }
 

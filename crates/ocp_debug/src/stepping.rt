@@ -53,13 +53,14 @@ fn note<A: Allocator>(
     });
 }
 
-/// The instruction event of a running procedure: its next instruction is done, or a breakpoint
-/// holds it, or its budget is spent, which is a fault. It is refused as not loaded, or as not
-/// running, and then changes nothing. An instruction of a traced procedure leaves its record in the
-/// ring, and so does a fault.
+/// The instruction event of a procedure, by its place: its next instruction is done, or a
+/// breakpoint holds it, or its budget is spent, which is a fault. It is refused as not loaded, or
+/// as not running, and then changes nothing. An instruction of a traced procedure leaves its record
+/// in the ring, and so does a fault.
 pub fn instruction<A: Allocator>(
     table: &mut Table<A>,
     id: u16,
+    at: Place,
     pool: &mut Pool<A>,
     ring: &mut TraceRing<A>,
 ) -> InstructionAnswer
@@ -69,7 +70,6 @@ pub fn instruction<A: Allocator>(
         last_traces (ring.old
         ++ traces_by (effect_in (Step pool.old) id table.old.records) table.old.records) }
 {
-    let at = table.place(id);
     let place = traced_place(table, id, at);
     let answer = table.instruction_at(id, at, pool);
     note(ring, table, id, at, place, answer.outcome);

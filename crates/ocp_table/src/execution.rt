@@ -1,5 +1,5 @@
 //! A program and the machine that runs it.
-ghost use Rattle.std.specs.Prelude.{◌≡◌, ◌≤◌, ◌==◌, ◌&&◌, ◌↔◌, ℕ, List, [], Err, Some, IfErr, IfOk, IsOk, IsSome, IsTrue, OnErr, OnOk, length};
+ghost use Rattle.std.specs.Prelude.{◌≡◌, ◌≤◌, ◌==◌, ◌&&◌, ◌↔◌, [], Err, Some, IfErr, IfOk, IsOk, IsTrue, OnErr, OnOk, length};
 ghost use Rattle.ocp_table.specs.Clauses.{HasAddressesOf, IsWithin, StandsIn, less, load_result, local_run, machine_at_restart, machine_at_start, machine_by_outcome, mailbox_by_outcome, one_step, outcome_of, pool_by_outcome};
 
 use crate::budget::spend;
@@ -94,7 +94,8 @@ impl<A: Allocator> Execution<A> {
     /// The machine.
     #[inline(always)]
     pub fn machine(&self) -> &Machine<A>
-        ensures { result.now ≡ self.now.machine }
+        ensures value { result.now ≡ self.now.machine }
+        ensures stands { StandsIn self.now.image self.now.machine }
     {
         &self.machine
     }
@@ -124,16 +125,6 @@ impl<A: Allocator> Execution<A> {
         ensures machine { self.new.machine ≡ machine_at_restart arguments.now self.old.machine }
     {
         self.machine.start(arguments);
-    }
-
-    /// There is an instruction to do. The function does nothing when it runs.
-    #[inline(always)]
-    pub(crate) fn has_instruction(&self)
-        ensures { (pool mailbox : List ℕ) →
-            IsSome
-            (outcome_of (one_step self.now.image self.now.machine) self.now.machine pool mailbox) }
-    {
-        let _machine = &self.machine;
     }
 
     /// Does one instruction. There always is one.

@@ -10,13 +10,13 @@ use std::alloc::Allocator;
 
 impl<A: Allocator> State<A> {
     // Whether a slice goes on after this outcome.
-    fn goes_on(&self, id: u16, place: Place, outcome: StepOutcome) -> bool
+    fn goes_on(&self, id: u16, outcome: StepOutcome) -> bool
         ensures goes { (w : World) → IsWorld w self.now →
             result ≡ (if is_on outcome then is_running (get w.records id) else false) }
         ensures accepted { (w : World) (by : ℕ) → IsWorld w self.now → result ≡ true →
             is_accepted (after w (Step by id)).answer ≡ true }
     {
-        outcome.is_on() && self.table.refusal(id, place).is_none()
+        outcome.is_on() && self.table.running(id).is_ok()
     }
 
     /// Does instructions of one procedure, by its place, until the budget is used or they go no
@@ -44,11 +44,11 @@ impl<A: Allocator> State<A> {
         // Each instruction of a traced procedure makes a trace record.
         let mut last = StepOutcome::Ran;
         for done in 0..budget {
-            let answer = self.instruction(id);
+            let answer = self.instruction(id, place);
             let count = done + 1;
             let step = answer.step;
             last = answer.outcome;
-            if !self.goes_on(id, place, last) {
+            if !self.goes_on(id, last) {
                 return Round { count, last, step };
             }
             if extent.ends_with(step) {

@@ -13,7 +13,7 @@ use ocp_pool::{MAX_POOL_WORDS, Pool};
 use ocp_profile::Profile;
 use ocp_reports::{Origin, PacketBuffer, Sender, count_after};
 use ocp_table::laws::an_unload_takes_a_load_back;
-use ocp_table::{Change, Decision, Directive, InstructionAnswer, Table};
+use ocp_table::{Change, Decision, Directive, InstructionAnswer, Place, Table};
 use pus_fields::{Tc, TcFault};
 use space_packet::{Apid, SequenceCount};
 use std::alloc::{AllocError, Allocator};
@@ -29,8 +29,8 @@ pub struct State<A: Allocator> {
 }
 
 impl<A: Allocator> State<A> {
-    /// Does one instruction of a procedure.
-    pub fn instruction(&mut self, id: u16) -> InstructionAnswer
+    /// Does one instruction of a procedure, by its place.
+    pub fn instruction(&mut self, id: u16, place: Place) -> InstructionAnswer
         ensures world { (w : World) (by : ℕ) → IsWorld w self.old →
             IsWorld (after w (Step by id)).world self.new }
         ensures answer { (w : World) (by : ℕ) → IsWorld w self.old →
@@ -38,7 +38,7 @@ impl<A: Allocator> State<A> {
         ensures step { (w : World) → IsWorld w self.old → result.step ≡ step_ended w id }
     {
         ocp_debug::laws::keeping_is_kept_up();
-        ocp_debug::instruction(&mut self.table, id, &mut self.pool, &mut self.ring)
+        ocp_debug::instruction(&mut self.table, id, place, &mut self.pool, &mut self.ring)
     }
 
     /// Why a debugger's command is refused, if it is.
