@@ -11,13 +11,12 @@ use Rattle.ocp_table.proofs.Tables.{table_is, few_from_room}
 use Rattle.ocp_table.proofs.table.Table.add.Goals as goal
 
 -- there is a spare execution, since the table is not full
-pub unreachable-requires : goal.unreachable-requires
-unreachable-requires g c =
+pub unwrap-execution-requires : goal.unwrap-execution-requires
+unwrap-execution-requires g c =
     let sound = c.self.invariant.0.sound in
     let room = rw (← c.self.view_is) at c.requires.room in
     let few : slab_len c.self.inside.records < MAX_PROCEDURES = few_from_room c.self.inside.records _ (sym (len-contents id_of record_of c.self.inside.records sound.distinct)) room in
-    let some = c.in_default.ensures.variant.1 (omega (arith, few, c.self.invariant.1.all)) in
-    cc
+    c.pop.ensures.variant.1 (omega (arith, few, c.self.invariant.1.all))
 
 pub invariant_of-self-2 : goal.invariant_of-self-2
 invariant_of-self-2 g c =
@@ -37,7 +36,7 @@ invariant_of-self-2 g c =
         places = fits-inserted _ _ _ (id_of c.new.result) (record_of c.new.result) put c.new.ensures.idle c.self.invariant.0.places;
       },
       record {
-        all = omega (arith, c.self.invariant.1.all, c.insert_reserved-key.ensures.len, c.in-Some.ensures.len);
+        all = omega (arith, c.self.invariant.1.all, c.insert_reserved-key.ensures.len, rw c.unwrap-execution.ensures at c.pop.ensures.cases);
         room = omega (arith, c.self.invariant.1.room, c.pop.ensures.capacity);
       },
     )
@@ -49,6 +48,6 @@ returns-clause-ok g c =
     let absent = IsAbsent-from_get id_of record_of c.self.inside.records (id_of c.new.result) sound.distinct free in
     let new = Replaces-new id_of record_of c.self.inside.records _ _ c.insert_reserved-key.ensures.was_vacant absent in
     let put = contents-put id_of record_of c.self.inside.records c.insert_reserved-key.new.self c.insert_reserved-key.result _ sound.distinct new c.insert_reserved-key.ensures.updates in
-    let made = c.in_default-load.ensures.ok in
+    let made = c.in_default.ensures.ok in
     let shows = c.new.ensures.record c.self.inside.profile (ap (λ e. e.machine) made) ∙ ap (λ e. new_record c.self.inside.profile e.image) made in
     rw (← c.self.view_is) (table_is _ _ _ _ _ (put ∙ ap (λ i. insert (contents id_of record_of c.self.inside.records) i (record_of c.new.result)) c.new.ensures.id ∙ ap (insert (contents id_of record_of c.self.inside.records) c.args.id) shows) refl)
