@@ -1,6 +1,6 @@
 //! What a console keeps from line to line, and what each line does to it.
 
-ghost use Rattle.std.specs.Prelude.{◌≡◌, ◌<◌, ◌⊎◌, length, IfOk, IfErr, OnOk};
+ghost use Rattle.std.specs.Prelude.{◌≡◌, ◌<◌, ◌⊎◌, [], length, IfOk, IfErr, OnOk};
 ghost use Rattle.space_packet.specs.declared.range.TheConstants.{IDLE_APID};
 
 use crate::debugging::{no_octets_text, octets_text, place_text, switch_text};
@@ -35,7 +35,7 @@ pub(crate) struct Console<A: Allocator> {
 
 impl<A: Allocator + Copy> Console<A> {
     ghost use Rattle.ocp_lines.specs.Grammar.{IsSayable, meaning_of};
-    ghost use Rattle.ocp_console.specs.Answering.{state_of, opening, on_drain, trace_lines, view_text, memory_text, effect_of};
+    ghost use Rattle.ocp_console.specs.Answering.{state_of, opening, on_drain, memory_text, effect_of};
     ghost use Rattle.ocp_console.specs.Crew.{HasDone, HasRefused};
     ghost use Rattle.ocp_ports.specs.declared.crew.CrewFault.{CrewFault};
     ghost use Rattle.ocp_ports.specs.Faults.{crew_fault};
@@ -64,29 +64,12 @@ impl<A: Allocator + Copy> Console<A> {
 
     /// What a `drain` line does.
     fn drain(&mut self, alloc: A) -> Result<(), AllocError>
+        requires { self.old.output.items ≡ [] }
         ensures { OnOk result
             ((state_of self.new, self.new.output.items) ≡ on_drain (state_of self.old)) }
     {
         let answer = self.engine.drain(alloc, 0, self.time);
         answer_text(answer, &mut self.output)
-    }
-
-    /// What a `trace` line prints.
-    fn traces(&mut self) -> Result<(), AllocError>
-        ensures state { state_of self.new ≡ state_of self.old }
-        ensures output { OnOk result (self.new.output.items ≡ trace_lines (state_of self.old)) }
-    {
-        self.output.clear();
-        self.engine.trace_lines(&mut self.output)
-    }
-
-    /// What a `view` line prints.
-    fn view(&mut self, id: u16) -> Result<(), AllocError>
-        ensures state { state_of self.new ≡ state_of self.old }
-        ensures output { OnOk result (self.new.output.items ≡ view_text (state_of self.old) id) }
-    {
-        self.output.clear();
-        view_text(id, self.engine.view(id), &mut self.output)
     }
 
     /// What a `mem` line prints.
@@ -96,6 +79,7 @@ impl<A: Allocator + Copy> Console<A> {
         address: u64,
         length: Count<MAX_MEMORY_LENGTH>,
     ) -> Result<(), AllocError>
+        requires { self.old.output.items ≡ [] }
         ensures state { state_of self.new ≡ state_of self.old }
         ensures output { OnOk result (self.new.output.items ≡
             memory_text (state_of self.old) id address length.number) }
@@ -110,7 +94,8 @@ impl<A: Allocator + Copy> Console<A> {
 
     /// Does what a command asks for, or returns the work that it asks of the crew.
     fn obey(&mut self, alloc: A, command: Command<'_>) -> Result<Option<Shift>, AllocError>
-        requires { IsSayable self.old.profile (meaning_of command) }
+        requires sayable { IsSayable self.old.profile (meaning_of command) }
+        requires empty { self.old.output.items ≡ [] }
         ensures effect { IfOk result
             (λ reply. effect_by (state_of self.new) self.new.output.items reply ≡
             effect_of (state_of self.old) (meaning_of command.entry)) }
@@ -119,7 +104,7 @@ impl<A: Allocator + Copy> Console<A> {
     {
         match command {
             Command::Work(shift) => return Ok(Some(shift)),
-            Command::Nothing => self.output.clear(),
+            Command::Nothing => {}
             Command::Up(octets) => {
                 let answer = self.engine.request(alloc, 0, self.time, octets);
                 answer_text(answer, &mut self.output)?;
@@ -129,10 +114,7 @@ impl<A: Allocator + Copy> Console<A> {
                 let answer = self.engine.request(alloc, 0, self.time, packet.as_slice());
                 answer_text(answer, &mut self.output)?;
             }
-            Command::Time(time) => {
-                self.time = time;
-                self.output.clear();
-            }
+            Command::Time(time) => self.time = time,
             Command::Step { id, steps } => {
                 let slice = self.engine.slice(0, id, steps.number);
                 step_text(id, slice, &mut self.output)?;
@@ -153,8 +135,8 @@ impl<A: Allocator + Copy> Console<A> {
                 let answer = self.engine.trace(0, id, on);
                 switch_text(id, on, answer, &mut self.output)?;
             }
-            Command::Traces => self.traces()?,
-            Command::View(id) => self.view(id)?,
+            Command::Traces => self.engine.trace_lines(&mut self.output)?,
+            Command::View(id) => view_text(id, self.engine.view(id), &mut self.output)?,
             Command::Memory {
                 id,
                 address,
@@ -184,6 +166,7 @@ impl<A: Allocator + Copy> Console<A> {
         ensures { Answers (state_of self.old) (state_of self.new) self.new.output.items
             number line.now result }
     {
+        self.output.clear();
         let mut scratch = Vec::new(alloc);
         let Some(command) = read_command(&mut scratch, self.profile, line)? else {
             return Err(ConsoleFault::Syntax(number));
@@ -209,6 +192,7 @@ impl<A: Allocator + Copy> Console<A> {
         let budget = shift.budget.number;
         let turns = shift.turns.number;
         self.engine = crew.work(self.engine, workers, budget, turns)?;
+        self.output.clear();
         work_text(shift.workers.number, &mut self.output)?;
         Ok(self)
     }

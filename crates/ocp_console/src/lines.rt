@@ -36,7 +36,7 @@ pub(crate) struct Lines<A: Allocator> {
 }
 
 impl<A: Allocator> Lines<A> {
-    ghost use Rattle.ocp_console.specs.Mirror.Lines.{is_one_line, octets_left, octets_of_line, text_in, HasFault, Finds, ReadsWithin, Counts};
+    ghost use Rattle.ocp_console.specs.Mirror.Lines.{is_one_line, octets_left, text_in, HasFault, Finds, ReadsWithin, Counts};
 
     pub fn new(alloc: A) -> Lines<A>
         ensures held { octets_left result ≡ [] }
@@ -55,25 +55,19 @@ impl<A: Allocator> Lines<A> {
         }
     }
 
-    /// The last line, without its newline.
-    fn octets(&self) -> &[u8]
-        ensures { result.now ≡ octets_of_line self.now }
-    {
-        if self.line.is_empty() {
-            &self.chunk[self.first..self.last]
-        } else {
-            &self.line
-        }
-    }
-
     /// The last line, without its newline and a carriage return before it.
     pub fn text(&self) -> &[u8]
         ensures { result.now ≡ text_in self.now }
     {
+        let octets = if self.line.is_empty() {
+            &self.chunk[self.first..self.last]
+        } else {
+            self.line.as_slice()
+        };
         if self.is_over {
-            return self.octets();
+            return octets;
         }
-        without_carriage_return(self.octets())
+        without_carriage_return(octets)
     }
 
     /// Finds the next line, and returns its number, or none if there is no line left.

@@ -24,6 +24,7 @@ impl<A: Allocator + Copy> Console<A> {
             telecommand self.old.profile self.old.apid self.old.count flags.number request.now) }
         ensures state { OnOk result
             (state_of self.new ≡ with_next_count (state_of self.old)) }
+        ensures output { self.new.output ≡ self.old.output }
     {
         let mut payload = Vec::new(alloc);
         write_request(self.profile, request, &mut payload)?;

@@ -1,9 +1,5 @@
 //! A line on the stack.
 
-ghost use Rattle.std.specs.Prelude.{◌≡◌, OnOk};
-
-use std::alloc::{AllocError, Allocator};
-
 /// A line, or the front of one. Without pairs of hexadecimal digits it has at most 64 octets.
 pub(crate) type Text = bpf_canonical::Text<64>;
 
@@ -21,14 +17,3 @@ macro_rules! push_parts {
 }
 
 pub(crate) use push_parts;
-
-/// Writes the text to a vector, in place of what it held.
-pub(crate) fn write_text<A: Allocator>(
-    text: &Text,
-    output: &mut Vec<u8, A>,
-) -> Result<(), AllocError>
-    ensures { OnOk result (output.new.items ≡ text.now) }
-{
-    output.clear();
-    output.extend_from_slice(text.as_slice())
-}

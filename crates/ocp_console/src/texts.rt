@@ -5,7 +5,7 @@ ghost use Rattle.ocp_world.specs.After.{Requested};
 ghost use Rattle.ocp_console.specs.Answering.{answer_text};
 ghost use Rattle.ocp_console.specs.Texts.{report_line, step_line, step_end_text, round_line, pool_line, put_ending, put_line, journal_line, work_line};
 
-use crate::text::{Text, push_parts, write_text};
+use crate::text::{Text, push_parts};
 use ocp_core::{EngineFault, PutFault, Reports, Round, Slice};
 use ocp_debug::{push_outcome, push_spaced_word};
 use pus_fields::read_tm;
@@ -47,43 +47,43 @@ fn reason_text(front: &[u8], name: &str) -> Text
     text
 }
 
-/// Writes the lines of a request or a drain with this answer.
+/// Appends the lines of a request or a drain with this answer.
 pub(crate) fn answer_text<A: Allocator + Copy>(
     answer: Result<Reports<A>, EngineFault>,
     output: &mut Vec<u8, A>,
 ) -> Result<(), AllocError>
-    ensures lines { OnOk result (output.new.items ≡ answer_text (Requested answer)) }
+    ensures lines { OnOk result
+        (output.new.items ≡ output.old.items ++ answer_text (Requested answer)) }
     ensures memory { OnOk result (answer ≢ Err EngineFault.Memory) }
 {
-    match answer {
+    let text = match answer {
         Ok(reports) => {
-            output.clear();
             for packet in reports.packets() {
                 push_report(packet.as_slice(), output)?;
             }
-            Ok(())
+            return Ok(());
         }
-        Err(EngineFault::Discarded(why)) => {
-            write_text(&reason_text(b"discarded ", why.name()), output)
-        }
-        Err(EngineFault::Memory) => Err(AllocError),
-        Err(fault) => write_text(&reason_text(b"refused ", fault.name()), output),
-    }
+        Err(EngineFault::Discarded(why)) => reason_text(b"discarded ", why.name()),
+        Err(EngineFault::Memory) => return Err(AllocError),
+        Err(fault) => reason_text(b"refused ", fault.name()),
+    };
+    output.extend_from_slice(text.as_slice())
 }
 
-/// Writes the line of some steps.
+/// Appends the line of some steps.
 pub(crate) fn step_text<A: Allocator>(
     id: u16,
     slice: Slice,
     output: &mut Vec<u8, A>,
 ) -> Result<(), AllocError>
-    ensures { OnOk result (output.new.items ≡ step_line id slice.count slice.last) }
+    ensures { OnOk result
+        (output.new.items ≡ output.old.items ++ step_line id slice.count slice.last) }
 {
     let mut text = Text::new();
     push_parts!(text; b"step " => id, b" " => slice.count; b" ");
     push_outcome(&mut text, slice.last);
     text.push_all(b"\n");
-    write_text(&text, output)
+    output.extend_from_slice(text.as_slice())
 }
 
 /// Appends the number of the step that ended, if one did.
@@ -98,20 +98,20 @@ fn push_step_end(text: &mut Text, step: Option<u16>)
     }
 }
 
-/// Writes the line of a round.
+/// Appends the line of a round.
 pub(crate) fn round_text<A: Allocator>(
     id: u16,
     round: Round,
     output: &mut Vec<u8, A>,
 ) -> Result<(), AllocError>
-    ensures { OnOk result (output.new.items ≡ round_line id round) }
+    ensures { OnOk result (output.new.items ≡ output.old.items ++ round_line id round) }
 {
     let mut text = Text::new();
     push_parts!(text; b"round " => id, b" " => round.count; b" ");
     push_outcome(&mut text, round.last);
     push_step_end(&mut text, round.step);
     text.push_all(b"\n");
-    write_text(&text, output)
+    output.extend_from_slice(text.as_slice())
 }
 
 /// How a write of a word ended.
@@ -124,28 +124,28 @@ fn put_ending(answer: Result<(), PutFault>) -> &'static str
     }
 }
 
-/// Writes the line of a `put` command.
+/// Appends the line of a `put` command.
 pub(crate) fn put_text<A: Allocator>(
     index: u64,
     value: u64,
     answer: Result<(), PutFault>,
     output: &mut Vec<u8, A>,
 ) -> Result<(), AllocError>
-    ensures { OnOk result (output.new.items ≡ put_line index value answer) }
+    ensures { OnOk result (output.new.items ≡ output.old.items ++ put_line index value answer) }
 {
     let end = put_ending(answer).as_bytes();
     let mut text = Text::new();
     push_parts!(text; b"put " => index, b" " => value; b" "; end; b"\n");
-    write_text(&text, output)
+    output.extend_from_slice(text.as_slice())
 }
 
-/// Writes the line of a word of the pool.
+/// Appends the line of a word of the pool.
 pub(crate) fn pool_text<A: Allocator>(
     index: u64,
     word: Option<u64>,
     output: &mut Vec<u8, A>,
 ) -> Result<(), AllocError>
-    ensures { OnOk result (output.new.items ≡ pool_line index word) }
+    ensures { OnOk result (output.new.items ≡ output.old.items ++ pool_line index word) }
 {
     let mut text = Text::new();
     push_parts!(text; b"pool " => index);
@@ -156,29 +156,29 @@ pub(crate) fn pool_text<A: Allocator>(
             text.push_all(b"\n");
         }
     }
-    write_text(&text, output)
+    output.extend_from_slice(text.as_slice())
 }
 
-/// Writes the line of a journal with this many events.
+/// Appends the line of a journal with this many events.
 pub(crate) fn journal_text<A: Allocator>(
     events: u64,
     output: &mut Vec<u8, A>,
 ) -> Result<(), AllocError>
-    ensures { OnOk result (output.new.items ≡ journal_line events) }
+    ensures { OnOk result (output.new.items ≡ output.old.items ++ journal_line events) }
 {
     let mut text = Text::new();
     push_parts!(text; b"journal " => events; b"\n");
-    write_text(&text, output)
+    output.extend_from_slice(text.as_slice())
 }
 
-/// Writes the line of workers whose work was closed.
+/// Appends the line of workers whose work was closed.
 pub(crate) fn work_text<A: Allocator>(
     workers: u32,
     output: &mut Vec<u8, A>,
 ) -> Result<(), AllocError>
-    ensures { OnOk result (output.new.items ≡ work_line workers) }
+    ensures { OnOk result (output.new.items ≡ output.old.items ++ work_line workers) }
 {
     let mut text = Text::new();
     push_parts!(text; b"work " => workers; b" closed\n");
-    write_text(&text, output)
+    output.extend_from_slice(text.as_slice())
 }
