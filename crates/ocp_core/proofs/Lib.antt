@@ -23,5 +23,6 @@ pub mod Marking
 pub mod Growing
 pub mod Rounds
 pub mod Storing
+pub mod Refused
 pub mod Replaying
 pub mod Requesting

@@ -41,24 +41,32 @@ pub fn instructions<S: Store, A: Allocator>(
     ensures world { IsWorld (world_of (S.log store.new)) state.new }
     ensures within { result.count ≤ budget }
 {
-    let place = match state.table.running(id) {
-        Ok(place) => place,
-        Err(last) => {
-            return Round {
+    // Without room none is done, and only the refusal is looked for.
+    if store.is_full(&Note::Steps { by, id, count: 1 }) {
+        let place = state.table.place(id);
+        return match state.table.running(id, place) {
+            Ok(()) => Round {
+                count: 0,
+                last: StepOutcome::JournalFull,
+                step: None,
+            },
+            Err(last) => Round {
                 count: 0,
                 last,
                 step: None,
-            };
-        }
-    };
-    if store.is_full(&Note::Steps { by, id, count: 1 }) {
+            },
+        };
+    }
+    let round = state.instructions(id, budget, extent);
+    // A refusal is that of the first one.
+    if let StepOutcome::NotLoaded | StepOutcome::NotRunning | StepOutcome::JournalFull = round.last
+    {
         return Round {
             count: 0,
-            last: StepOutcome::JournalFull,
+            last: round.last,
             step: None,
         };
     }
-    let round = state.instructions(id, place, budget, extent);
     store.push_steps(by, id, round.count, round.last);
     round
 }

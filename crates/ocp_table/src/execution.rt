@@ -2,7 +2,6 @@
 ghost use Rattle.std.specs.Prelude.{◌≡◌, ◌≤◌, ◌==◌, ◌&&◌, ◌↔◌, [], Err, Some, IfErr, IfOk, IsOk, IsTrue, OnErr, OnOk, length};
 ghost use Rattle.ocp_table.specs.Clauses.{HasAddressesOf, IsWithin, StandsIn, less, load_result, local_run, machine_at_restart, machine_at_start, machine_by_outcome, mailbox_by_outcome, one_step, outcome_of, pool_by_outcome};
 
-use crate::budget::spend;
 use crate::{InstructionOutcome, ProcedureFault};
 use bpf_step::{Local, Machine, Need};
 use ocp_loader::{Lines, LoadFault, Program, places_lead_to_places};
@@ -180,7 +179,9 @@ impl<A: Allocator> Execution<A> {
         if count > 0 {
             *pass = false;
         }
-        spend(count, remaining);
+        if let Some(left) = remaining {
+            *left -= count;
+        }
         count
     }
 

@@ -1,5 +1,5 @@
 -- A slice or a round of the state, against steps of the world.
-use Rattle.std.proofs.Common.{◌≡◌, ℕ, ◌+◌, ◌<◌, Bool, true, false, Option, None, replicate, cond, sym, ap, subst, ◌∙◌, add-one, arith}
+use Rattle.std.proofs.Common.{◌≡◌, ℕ, ◌+◌, ◌<◌, Bool, true, false, Option, None, replicate, cond, refl, sym, ap, subst, ◌∙◌, add-one, arith}
 use Rattle.std.specs.Prelude.{is_some}
 use Rattle.std.specs.FinMap.{get}
 use Rattle.ocp_table.specs.declared.answers.Extent.{Extent}
@@ -9,7 +9,7 @@ use Rattle.ocp_table.specs.declared.answers.StepOutcome.TheVariants.{Ran}
 use Rattle.ocp_table.specs.Slices.{Leads, EndNoStep}
 use Rattle.ocp_table.proofs.Slicing.{leads-none, leads-one, leads-on, unended-none, unended-one, unended-on, step-none, Comes, comes-whole, comes-end, comes-round}
 use Rattle.ocp_world.specs.World.{World, Step}
-use Rattle.ocp_world.specs.After.{Stepped, after, is_accepted}
+use Rattle.ocp_world.specs.After.{Stepped, after, is_accepted, is_done}
 use Rattle.ocp_world.specs.Replay.{replay_from}
 use Rattle.ocp_world.specs.Slice.{goes_on, is_on, is_running, next_outcome, slice_count, slice_last}
 use Rattle.ocp_world.specs.Round.{step_ended, step_at, most_events}
@@ -41,6 +41,7 @@ module _ {A : Type 0} where
     pub world : (w : World) (by : ℕ) → IsWorld w old → IsWorld (replay_from w (replicate n (Step by id))) now
     pub ready : (w : World) (by : ℕ) → IsWorld w old → is_accepted (after w (Step by id)).answer ≡ true → is_accepted (after (replay_from w (replicate n (Step by id))) (Step by id)).answer ≡ true
     pub events : (w : World) (by : ℕ) → IsWorld w old → is_accepted (after w (Step by id)).answer ≡ true → (replay_from w (replicate n (Step by id))).events ≡ w.events + n
+    pub done : (w : World) (by : ℕ) → IsWorld w old → is_accepted (after w (Step by id)).answer ≡ true → is_done last ≡ true
     pub leads : (w : World) (by : ℕ) → IsWorld w old → Leads id n (store_of w) Ran (store_of (replay_from w (replicate n (Step by id)))) last
     pub unended : (w : World) → IsWorld w old → extent ≡ extents.Round → EndNoStep id n (store_of w)
 
@@ -58,6 +59,7 @@ module _ {A : Type 0} where
     world = λ w by stands. stands;
     ready = λ w by stands first. first;
     events = λ w by stands first. none_counted w.events;
+    done = λ w by stands first. refl;
     leads = λ w by stands. leads-none id (store_of w) Ran;
     unended = λ w stands is. unended-none id (store_of w);
   }
@@ -87,6 +89,9 @@ module _ {A : Type 0} where
           ap (λ v. v.events) (replay_from-steps w by id n)
           ∙ ap (λ b. cond b (here.events + 1) here.events) (so_far.ready w by stands first)
           ∙ counts_on w.events here.events n (so_far.events w by stands first)
+
+      pub sliced_done : is_accepted (after w (Step by id)).answer ≡ true → is_done o ≡ true
+      sliced_done first = ap is_done outcome_here ∙ so_far.ready w by stands first
 
       module _ (budget : ℕ) (within : n < budget) where
         ends : on ≡ false → Comes extent id budget (store_of w) (n + 1) o
@@ -120,6 +125,7 @@ module _ {A : Type 0} where
       world = λ w by stands. sliced_world w by stands;
       ready = λ w by stands first. more.accepted (replay_from w (replicate (n + 1) (Step by id))) by (sliced_world w by stands) still;
       events = λ w by stands first. sliced_events w by stands first;
+      done = λ w by stands first. sliced_done w by stands first;
       leads = λ w by stands.
           let one = leads-one id (store_of (here w by stands)) last (tested w by stands ∙ still) in
           subst (λ v. Leads id (n + 1) (store_of w) Ran (store_of v) o) (sym (replay_from-steps w by id n))

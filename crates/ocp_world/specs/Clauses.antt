@@ -14,7 +14,7 @@ pub use Rattle.ocp_reports.specs.Reports.{reports_of}
 pub use Rattle.ocp_world.specs.declared.answers.EngineFault.TheVariants.{Memory, JournalFull}
 pub use Rattle.ocp_world.specs.World.{World, Request, Drain, Event, Step, Debug, Put, opening}
 pub use Rattle.ocp_world.specs.After.{after, effect_of, Requested, Stepped, Commanded, Written}
-pub use Rattle.ocp_world.specs.After.{is_accepted}
+pub use Rattle.ocp_world.specs.After.{is_accepted, is_done}
 pub use Rattle.ocp_world.specs.Mirror.Answering.{discard_of, IsDiscard, IsUndue}
 pub use Rattle.ocp_world.specs.Mirror.Answering.{IsDebugFault, IsPutAt}
 pub use Rattle.ocp_world.specs.Mirror.State.{IsWorld, DoesIn, Does, with_packets}

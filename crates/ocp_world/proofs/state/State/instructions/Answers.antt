@@ -4,7 +4,7 @@ use Rattle.ocp_world.proofs.Counting.{accepted_runs, slice_counted}
 use Rattle.ocp_world.proofs.Stretches.{sliced, sliced_count as table_count, sliced_last as table_last, sliced_step as table_step}
 use Rattle.ocp_world.specs.Round.{most_events}
 use Rattle.ocp_table.specs.declared.answers.StepOutcome.TheVariants.{Ran}
-use Rattle.ocp_world.proofs.Slicing.{IsSliced, IsSliced-none, IsSliced-more, sliced_world, sliced_events, sliced_count, sliced_last, sliced_step, rounded_count, rounded_last, whole_is_counted, whole_is_answered, whole_ends_none}
+use Rattle.ocp_world.proofs.Slicing.{IsSliced, IsSliced-none, IsSliced-more, sliced_world, sliced_events, sliced_done, sliced_count, sliced_last, sliced_step, rounded_count, rounded_last, whole_is_counted, whole_is_answered, whole_ends_none}
 use Rattle.ocp_world.proofs.state.State.instructions.Goals as goal
 
 pub returns-in-Some-clause-world : goal.returns-in-Some-clause-world
@@ -16,6 +16,9 @@ returns-in-Some-clause-events g c w by stands first =
     (table_count c.args.extent c.args.self.now c.args.id c.args.budget c.in-Some.round.count c.in-Some.ensures.count w by stands)
     (table_last c.args.extent c.args.self.now c.args.id c.args.budget _ c.in-Some.round.last c.in-Some.ensures.last w by stands)
     (c.in-Some.ensures.done (accepted_runs by c.args.id c.args.self.now.table.records w stands.records first))
+
+pub returns-in-Some-clause-done : goal.returns-in-Some-clause-done
+returns-in-Some-clause-done g c w by stands first = c.in-Some.ensures.done (accepted_runs by c.args.id c.args.self.now.table.records w stands.records first)
 
 pub returns-in-Some-clause-count : goal.returns-in-Some-clause-count
 returns-in-Some-clause-count g c = table_count c.args.extent c.args.self.now c.args.id c.args.budget c.in-Some.round.count c.in-Some.ensures.count
@@ -32,6 +35,9 @@ returns-then-not-goes_on-clause-world g c = sliced_world c.args.extent c.args.se
 pub returns-then-not-goes_on-clause-events : goal.returns-then-not-goes_on-clause-events
 returns-then-not-goes_on-clause-events g c w by stands = sliced_events c.args.extent c.args.self.now c.loop-done.self c.instruction-answer.new.self c.args.id c.loop-done.done c.loop-done.last c.instruction-answer.result.outcome c.instruction-answer.result.step c.goes_on.result c.loop-done.invariant (record { world = c.instruction-answer.ensures.world; answer = c.instruction-answer.ensures.answer; ended = c.instruction-answer.ensures.step; goes = c.goes_on.ensures.goes; accepted = c.goes_on.ensures.accepted }) w by stands
 
+pub returns-then-not-goes_on-clause-done : goal.returns-then-not-goes_on-clause-done
+returns-then-not-goes_on-clause-done g c w by stands = sliced_done c.args.extent c.args.self.now c.loop-done.self c.instruction-answer.new.self c.args.id c.loop-done.done c.loop-done.last c.instruction-answer.result.outcome c.instruction-answer.result.step c.goes_on.result c.loop-done.invariant (record { world = c.instruction-answer.ensures.world; answer = c.instruction-answer.ensures.answer; ended = c.instruction-answer.ensures.step; goes = c.goes_on.ensures.goes; accepted = c.goes_on.ensures.accepted }) w by stands
+
 pub returns-then-not-goes_on-clause-count : goal.returns-then-not-goes_on-clause-count
 returns-then-not-goes_on-clause-count g c w by stands = sliced_count c.args.extent c.args.self.now c.loop-done.self c.instruction-answer.new.self c.args.id c.loop-done.done c.loop-done.last c.instruction-answer.result.outcome c.instruction-answer.result.step c.goes_on.result c.loop-done.invariant (record { world = c.instruction-answer.ensures.world; answer = c.instruction-answer.ensures.answer; ended = c.instruction-answer.ensures.step; goes = c.goes_on.ensures.goes; accepted = c.goes_on.ensures.accepted }) w by stands c.args.budget c.loop-done-test.true c.if-not-goes_on.true
 
@@ -46,6 +52,9 @@ returns-then-ends_with-clause-world g c = sliced_world c.args.extent c.args.self
 
 pub returns-then-ends_with-clause-events : goal.returns-then-ends_with-clause-events
 returns-then-ends_with-clause-events g c w by stands = sliced_events c.args.extent c.args.self.now c.loop-done.self c.instruction-answer.new.self c.args.id c.loop-done.done c.loop-done.last c.instruction-answer.result.outcome c.instruction-answer.result.step c.goes_on.result c.loop-done.invariant (record { world = c.instruction-answer.ensures.world; answer = c.instruction-answer.ensures.answer; ended = c.instruction-answer.ensures.step; goes = c.goes_on.ensures.goes; accepted = c.goes_on.ensures.accepted }) w by stands
+
+pub returns-then-ends_with-clause-done : goal.returns-then-ends_with-clause-done
+returns-then-ends_with-clause-done g c w by stands = sliced_done c.args.extent c.args.self.now c.loop-done.self c.instruction-answer.new.self c.args.id c.loop-done.done c.loop-done.last c.instruction-answer.result.outcome c.instruction-answer.result.step c.goes_on.result c.loop-done.invariant (record { world = c.instruction-answer.ensures.world; answer = c.instruction-answer.ensures.answer; ended = c.instruction-answer.ensures.step; goes = c.goes_on.ensures.goes; accepted = c.goes_on.ensures.accepted }) w by stands
 
 pub returns-then-ends_with-clause-count : goal.returns-then-ends_with-clause-count
 returns-then-ends_with-clause-count g c w by stands =
@@ -68,6 +77,9 @@ pub loop-done-init : goal.loop-done-init
 loop-done-init g c =
     let kept = c.in_default.ensures.kept refl in
     subst (λ s. IsSliced c.args.extent c.args.self.now s c.args.id 0 Ran) (λ i. record c.args.self.now { table = sym kept.0 i; pool = sym kept.1 i }) (IsSliced-none c.args.extent c.args.self.now c.args.id)
+
+pub returns-clause-done : goal.returns-clause-done
+returns-clause-done g c = c.loop-done.invariant.done
 
 pub returns-clause-count : goal.returns-clause-count
 returns-clause-count g c w by stands = whole_is_counted c.args.extent c.args.self.now c.loop-done.self c.args.id c.loop-done.done c.args.budget c.loop-done.last c.loop-done.invariant (omega arith) w by stands
