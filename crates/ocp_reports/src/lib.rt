@@ -7,6 +7,6 @@ mod origin;
 mod sender;
 
 pub use buffer::{MAX_PACKET_OCTETS, MAX_PACKETS, PacketBuffer, PacketList};
-pub use octets::{Octets, Reports, SharedReports};
+pub use octets::{Octets, Packet, Reports, SharedReports};
 pub use origin::Origin;
 pub use sender::{Sender, count_after};

@@ -57,10 +57,36 @@ impl<A: Allocator> Octets<A> {
     }
 }
 
+/// A packet of reports that are kept, seen as its octets.
+#[derive(Drop)]
+pub struct Packet<A: Allocator = Global> {
+    octets: Vec<u8, A>,
+}
+
+impl<A: Allocator> Model for Packet<A> {
+    ghost Value = { List ℕ };
+
+    ghost view = { λ p. p.octets.items };
+}
+
+impl<A: Allocator> Packet<A> {
+    pub fn as_slice(&self) -> &[u8]
+        ensures { result.now ≡ self.now }
+    {
+        self.octets.as_slice()
+    }
+
+    fn is_same(&self, other: &Self) -> bool
+        ensures { IsTrue result ↔ (self.now ≡ other.now) }
+    {
+        self.as_slice() == other.as_slice()
+    }
+}
+
 /// The reports of one request, each a whole telemetry packet, in the order in which they are sent.
 /// All handles of the same reports share one memory.
 pub struct Reports<A: Allocator = Global> {
-    packets: Arc<Vec<Octets<A>, A>, A>,
+    packets: Arc<Vec<Packet<A>, A>, A>,
 }
 
 /// Kept as one call: the proof of each caller is then shorter.
@@ -93,7 +119,7 @@ impl<A: Allocator> Reports<A> {
     }
 
     /// The packets, each of which is read as telemetry.
-    pub fn packets(&self) -> &[Octets<A>]
+    pub fn packets(&self) -> &[Packet<A>]
         ensures value { result.now ≡ self.now }
         ensures telemetry { All IsTelemetryPacket self.now }
     {
@@ -143,7 +169,9 @@ impl<A: Allocator> SharedReports<A> {
         let mut packets = packets;
         let mut copies = Vec::new(alloc);
         while let Some(packet) = packets.next() {
-            copies.push(Octets::copy_of(alloc, packet)?)?;
+            copies.push(Packet {
+                octets: Vec::from_slice(alloc, packet)?,
+            })?;
         }
         let packets = Arc::new(alloc, copies)?;
         let journal = Arc::try_clone(&packets)?;
