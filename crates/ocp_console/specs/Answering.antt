@@ -1,5 +1,5 @@
 -- What a line does, and what it prints.
-use Rattle.std.specs.Prelude.{ℕ, ◌+◌, ◌%◌, List, [], length, Option, Some, None, Result, Ok, Err, codes, slice_get}
+use Rattle.std.specs.Prelude.{ℕ, ◌+◌, ◌%◌, List, [], length, Option, Some, None, Result, Ok, Err, slice_get}
 use Rattle.std.specs.List.{flat_map}
 use Rattle.std.specs.FinMap.{get}
 use Rattle.ocp_profile.specs.declared.profile.Profile.{Profile}

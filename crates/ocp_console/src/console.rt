@@ -93,6 +93,7 @@ impl<A: Allocator + Copy> Console<A> {
     }
 
     /// Does what a command asks for, or returns the work that it asks of the crew.
+    #[inline(always)]
     fn obey(&mut self, alloc: A, command: Command<'_>) -> Result<Option<Shift>, AllocError>
         requires sayable { IsSayable self.old.profile (meaning_of command) }
         requires empty { self.old.output.items ≡ [] }

@@ -3,7 +3,7 @@
 ghost use Rattle.std.specs.Prelude.{◌≡◌, ◌≤◌, ◌++◌, length, Ok, Err, OnOk};
 ghost use Rattle.ocp_console.specs.Texts.{ending_text, place_line, switch_line, memory_line};
 
-use crate::text::{Text, push_parts};
+use crate::text::{Text, push_octets, push_parts};
 use ocp_debug::DebugFault;
 use std::alloc::{AllocError, Allocator};
 
@@ -55,7 +55,7 @@ pub(crate) fn switch_text<A: Allocator>(
 }
 
 /// Appends the line of a procedure's octets from an address on.
-pub(crate) fn octets_text<A: Allocator + Copy>(
+pub(crate) fn octets_text<A: Allocator>(
     id: u16,
     address: u64,
     octets: &[u8],
@@ -69,10 +69,7 @@ pub(crate) fn octets_text<A: Allocator + Copy>(
     text.push_hex(address);
     text.push_all(b" ");
     output.extend_from_slice(text.as_slice())?;
-    let digits = hex::encode(*output.allocator(), octets)?;
-    output.extend_from_slice(digits.as_bytes())?;
-    output.push(b'\n')?;
-    Ok(())
+    push_octets(octets, output)
 }
 
 /// Appends the line of octets that cannot be read.

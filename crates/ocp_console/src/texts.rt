@@ -5,14 +5,14 @@ ghost use Rattle.ocp_world.specs.After.{Requested};
 ghost use Rattle.ocp_console.specs.Answering.{answer_text};
 ghost use Rattle.ocp_console.specs.Texts.{report_line, step_line, step_end_text, round_line, pool_line, put_ending, put_line, journal_line, work_line};
 
-use crate::text::{Text, push_parts};
+use crate::text::{Text, push_octets, push_parts};
 use ocp_core::{EngineFault, PutFault, Reports, Round, Slice};
 use ocp_debug::{push_outcome, push_spaced_word};
 use pus_fields::read_tm;
 use std::alloc::{AllocError, Allocator};
 
 /// Appends the line of a report.
-fn push_report<A: Allocator + Copy>(
+fn push_report<A: Allocator>(
     packet: &[u8],
     output: &mut Vec<u8, A>,
 ) -> Result<(), AllocError>
@@ -28,10 +28,7 @@ fn push_report<A: Allocator + Copy>(
         b" dest " => tm.destination; b" data "
     );
     output.extend_from_slice(front.as_slice())?;
-    let payload = hex::encode(*output.allocator(), tm.payload)?;
-    output.extend_from_slice(payload.as_bytes())?;
-    output.push(b'\n')?;
-    Ok(())
+    push_octets(tm.payload, output)
 }
 
 /// The line of a packet that is discarded, or of a request or a drain that is refused, for the
@@ -48,7 +45,7 @@ fn reason_text(front: &[u8], name: &str) -> Text
 }
 
 /// Appends the lines of a request or a drain with this answer.
-pub(crate) fn answer_text<A: Allocator + Copy>(
+pub(crate) fn answer_text<A: Allocator>(
     answer: Result<Reports<A>, EngineFault>,
     output: &mut Vec<u8, A>,
 ) -> Result<(), AllocError>

@@ -135,6 +135,7 @@ fn work(arguments: &[u8]) -> Option<Command<'_>>
 }
 
 /// The debugger's command of this name with these arguments.
+#[inline(always)]
 fn debugger_command<'a>(name: &[u8], arguments: &'a [u8]) -> Option<Command<'a>>
     ensures command { option_map meaning_of result ≡
         debugger_command_in name.now (words_of arguments.now) }
@@ -158,6 +159,7 @@ fn debugger_command<'a>(name: &[u8], arguments: &'a [u8]) -> Option<Command<'a>>
 }
 
 /// The command of this name with these arguments, which are no octets.
+#[inline(always)]
 fn plain_command<'a>(name: &[u8], arguments: &'a [u8]) -> Option<Command<'a>>
     ensures command { option_map meaning_of result ≡
         plain_command_in name.now (words_of arguments.now) }

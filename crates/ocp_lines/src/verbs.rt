@@ -104,6 +104,7 @@ fn communicate(arguments: &[u8]) -> Option<Request<'_>>
 }
 
 /// The request of this name with these arguments, which are no octets.
+#[inline(always)]
 fn plain_request<'a>(name: &[u8], arguments: &'a [u8]) -> Option<Request<'a>>
     ensures request { result ≡ plain_verb_in name.now (words_of arguments.now) }
     ensures fits { (profile : Profile) → IfSome result (IsCarried profile) }

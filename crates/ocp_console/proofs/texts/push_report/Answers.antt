@@ -1,4 +1,5 @@
-use Rattle.std.proofs.Common.{◌≡◌, ◌++◌, List, [], ◌∷◌, ℕ, append_assoc, codes, ◌∙◌, sym, ap, Ok}
+use Rattle.std.proofs.Common.{◌≡◌, ◌++◌, List, ℕ, append_assoc, codes, ◌∙◌, sym, ap, subst, Ok}
+use Rattle.std.specs.Prelude.{OnOk}
 use Rattle.std.specs.Fmt.{decimal}
 use Rattle.hex.specs.Hex.{encode_lower}
 use Rattle.pus_fields.specs.Telemetry.{Telemetry}
@@ -15,9 +16,7 @@ returns g c =
     let five : c.push_all-5.new.self ≡ (c.push_all-4.new.self ++ decimal tm.destination) ++ codes " data " = cc in
     let old = c.args.output.now.items in
     let begun : c.extend_from_slice.new.self.items ≡ old ++ c.push_all-5.new.self = c.in_ok-extend_from_slice.ensures.items ∙ ap (λ (t : List ℕ). old ++ t) c.as_slice.ensures in
-    let digits : c.as_bytes.result.now ≡ encode_lower tm.payload.now = c.as_bytes.ensures.value ∙ c.in_ok-payload.ensures in
-    let shown : c.extend_from_slice-2.new.self.items ≡ c.extend_from_slice.new.self.items ++ encode_lower tm.payload.now = c.in_ok-extend_from_slice-2.ensures.items ∙ ap (λ (t : List ℕ). c.extend_from_slice.new.self.items ++ t) digits in
-    let items : c.push.new.self.items ≡ c.extend_from_slice-2.new.self.items ++ 10 ∷ [] = c.in_ok-push.ensures.items in
     let said : Telemetry = record { apid = tm.apid; count = tm.count; service = tm.service; subtype = tm.subtype; destination = tm.destination; time = tm.time; payload = tm.payload.now } in
     let line : report_line c.args.packet.now ≡ line_of (Ok said) = ap line_of (sym c.read_tm.ensures.value ∙ c.in-Ok.is ∙ ap Ok (sym c.tm.view_is)) in
-    items ∙ rw (line, shown, begun, five, four, three, two) (simp append_assoc)
+    let whole : c.extend_from_slice.new.self.items ++ encode_lower tm.payload.now ++ codes "\n" ≡ old ++ report_line c.args.packet.now = rw (line, begun, five, four, three, two) (simp append_assoc) in
+    subst (λ (t : List ℕ). OnOk c.push_octets.result (c.push_octets.new.output.items ≡ t)) whole c.push_octets.ensures
