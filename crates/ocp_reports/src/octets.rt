@@ -60,20 +60,20 @@ impl<A: Allocator> Octets<A> {
 /// A packet of reports that are kept, seen as its octets.
 #[derive(Drop)]
 pub struct Packet<A: Allocator = Global> {
-    octets: Vec<u8, A>,
+    content: Vec<u8, A>,
 }
 
 impl<A: Allocator> Model for Packet<A> {
     ghost Value = { List ℕ };
 
-    ghost view = { λ p. p.octets.items };
+    ghost view = { λ p. p.content.items };
 }
 
 impl<A: Allocator> Packet<A> {
     pub fn as_slice(&self) -> &[u8]
         ensures { result.now ≡ self.now }
     {
-        self.octets.as_slice()
+        self.content.as_slice()
     }
 
     fn is_same(&self, other: &Self) -> bool
@@ -170,7 +170,7 @@ impl<A: Allocator> SharedReports<A> {
         let mut copies = Vec::new(alloc);
         while let Some(packet) = packets.next() {
             copies.push(Packet {
-                octets: Vec::from_slice(alloc, packet)?,
+                content: Vec::from_slice(alloc, packet)?,
             })?;
         }
         let packets = Arc::new(alloc, copies)?;
