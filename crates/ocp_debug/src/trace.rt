@@ -9,11 +9,11 @@ pub const TRACE_RECORDS: usize = 256;
 /// What is kept of one instruction of a traced procedure.
 #[derive(Clone, Copy)]
 pub struct Trace {
+    /// R0 to R10 after the instruction.
+    pub registers: [u64; 11],
+    pub line: Line,
     pub id: u16,
     /// The slot of the instruction.
     pub place: u16,
     pub outcome: StepOutcome,
-    /// R0 to R10 after the instruction.
-    pub registers: [u64; 11],
-    pub line: Line,
 }
