@@ -92,7 +92,8 @@ impl<A: Allocator + Copy> Console<A> {
         }
     }
 
-    /// Does what a command asks for, or returns the work that it asks of the crew.
+    /// Does what a command asks for, or returns the work that it asks of the crew. A call that is
+    /// not inlined would copy the command, of 80 octets.
     #[inline(always)]
     fn obey(&mut self, alloc: A, command: Command<'_>) -> Result<Option<Shift>, AllocError>
         requires sayable { IsSayable self.old.profile (meaning_of command) }

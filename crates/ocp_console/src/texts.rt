@@ -12,10 +12,7 @@ use pus_fields::read_tm;
 use std::alloc::{AllocError, Allocator};
 
 /// Appends the line of a report.
-fn push_report<A: Allocator>(
-    packet: &[u8],
-    output: &mut Vec<u8, A>,
-) -> Result<(), AllocError>
+fn push_report<A: Allocator>(packet: &[u8], output: &mut Vec<u8, A>) -> Result<(), AllocError>
     ensures { OnOk result (output.new.items ≡ output.old.items ++ report_line packet.now) }
 {
     let Ok(tm) = read_tm(packet) else {

@@ -59,7 +59,9 @@ pub fn instructions<S: Store, A: Allocator>(
     }
     let round = state.instructions(id, budget, extent);
     // A refusal is that of the first one.
-    if let StepOutcome::NotLoaded | StepOutcome::NotRunning | StepOutcome::JournalFull = round.last
+    if let StepOutcome::NotLoaded
+    | StepOutcome::NotRunning
+    | StepOutcome::JournalFull = round.last
     {
         return Round {
             count: 0,
