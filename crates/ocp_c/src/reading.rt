@@ -1,6 +1,6 @@
 //! What C reads of an engine.
 
-ghost use Rattle.std.specs.Prelude.{◌≡◌, ◌≢◌, ℕ, length};
+ghost use Rattle.std.specs.Prelude.{◌≡◌, ◌≢◌, ◌≤◌, ◌++◌, ℕ, length, drop};
 ghost use Rattle.std.specs.FinMap.{get};
 ghost use Rattle.std.specs.declared.option.Option.TheVariants.{None, Some};
 ghost use Rattle.ocp_table.specs.Shown.{view_at};
@@ -17,6 +17,14 @@ ghost use Rattle.ocp_c.specs.Records.{kept_record, record_or, record_status, tra
 use crate::status::write_value;
 use crate::{Handle, Procedure, Record, Status};
 use std::alloc::Global;
+
+// Writes registers to the beginning of a buffer that has room for them.
+fn write_registers(buffer: &mut [u64], registers: &[u64; 11])
+    requires { 11 ≤ length buffer.old }
+    ensures { buffer.new ≡ registers.now ++ drop 11 buffer.old }
+{
+    buffer[..11].copy_from_slice(registers);
+}
 
 // The identifier that a number is, if it is one.
 fn identifier_in(number: u32) -> Option<u16>
@@ -102,7 +110,7 @@ pub extern "C" fn ocp_view(
     match handle.with_engine(alloc, |engine| engine.view(id)) {
         Some(Some(found)) => {
             *view = found.into();
-            registers[..11].copy_from_slice(&found.registers);
+            write_registers(registers, &found.registers);
             Status::Done.number()
         }
         Some(None) => Status::NotLoaded.number(),
@@ -133,7 +141,7 @@ pub extern "C" fn ocp_trace_record(
     match handle.with_engine(alloc, |engine| engine.trace_record(index).copied()) {
         Some(Some(found)) => {
             record.show(&found);
-            registers[..11].copy_from_slice(&found.registers);
+            write_registers(registers, &found.registers);
             Status::Done.number()
         }
         Some(None) => Status::NoRecord.number(),
