@@ -9,4 +9,5 @@ mod FirstFault
 pub mod Decoded
 mod Sound
 mod Total
+mod TwoSlots
 mod Images

@@ -2,12 +2,14 @@
 #![tactic(auto)]
 
 mod codes;
+mod encoded;
 mod encoding;
 mod fault;
 mod laws;
 mod rows;
 mod slots;
 
+pub use encoded::EncodedLine;
 pub use encoding::{Slots, encode};
 pub use fault::DecodeFault;
 pub use laws::{

@@ -93,7 +93,7 @@ fn fault_in(octets: &[u8]) -> DecodeFault
 /// The instruction that the octets begin with, or their first fault.
 #[inline(always)]
 #[tactic(auto, unfolding(crate::specs::Mirror::Decoding::decode_result))]
-fn decode(octets: &[u8]) -> Result<Line, DecodeFault>
+pub(crate) fn decode(octets: &[u8]) -> Result<Line, DecodeFault>
     requires { 8 ≤ length octets.now }
     ensures { result ≡ decode_result octets.now }
 {

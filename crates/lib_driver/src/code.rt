@@ -4,7 +4,7 @@ ghost use Rattle.std.specs.Prelude.{◌+◌, ◌*◌, ◌≤◌, length, IsTrue}
 
 use crate::output::Output;
 use bpf_canonical::{Mnemonic, Stem, read_mnemonic};
-use bpf_decode::{decode_at, encode};
+use bpf_decode::{EncodedLine, decode_at, encode};
 use bpf_listing::{disassemble, line_text};
 use bpf_text::TextLine;
 use bpf_types::Line;
@@ -47,15 +47,17 @@ fn decode(alloc: Global, code: &[u8], slot: usize) -> Answer {
     }
 }
 
-/// The instruction that these octets begin with.
-pub(crate) fn line_of(code: &[u8]) -> Result<Line, Fault> {
-    if !has_slot(code, 0) {
+/// The instruction that these octets begin with, not decoded.
+pub(crate) fn encoding_of(code: &[u8]) -> Result<EncodedLine, Fault> {
+    if !has_slot(code, 0) || decode_at(code, 0).is_err() {
         return Err(Fault::Syntax);
     }
-    match decode_at(code, 0) {
-        Ok(line) => Ok(line),
-        Err(_) => Err(Fault::Syntax),
-    }
+    Ok(EncodedLine::at(code, 0))
+}
+
+/// The instruction that these octets begin with.
+fn line_of(code: &[u8]) -> Result<Line, Fault> {
+    Ok(encoding_of(code)?.line())
 }
 
 fn spell(alloc: Global, code: &[u8]) -> Answer {

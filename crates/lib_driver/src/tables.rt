@@ -1,7 +1,7 @@
 //! Calls of ocp_table and of ocp_debug, on the table that an earlier line made.
 
 use crate::answers::{Outcome, Shown, show_all};
-use crate::code::line_of;
+use crate::code::encoding_of;
 use crate::machines::few;
 use crate::output::Output;
 use crate::pools::pool_of;
@@ -119,7 +119,7 @@ fn record_of(alloc: Global, words: &[&str]) -> Result<Trace, Fault> {
         place: number_of(place)?,
         outcome: outcome_of(outcome)?,
         registers: registers_of(alloc, registers)?,
-        line: line_of(&octets(alloc, code)?)?,
+        line: encoding_of(&octets(alloc, code)?)?,
     })
 }
 

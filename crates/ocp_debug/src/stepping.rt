@@ -41,7 +41,7 @@ fn note<A: Allocator>(
     let Some(record) = table.record_at(id, at) else {
         return;
     };
-    let Some(line) = record.execution.program().line_at(place) else {
+    let Some(line) = record.execution.program().encoding_at(place) else {
         return;
     };
     ring.push(Trace {

@@ -109,7 +109,7 @@ pub(crate) fn line_of(trace: &Trace) -> Text
     push_outcome(&mut text, trace.outcome);
     push_words(&mut text, &trace.registers);
     text.push_all(b" ");
-    text.push_all(bpf_canonical::text_of(&trace.line).as_slice());
+    text.push_all(bpf_canonical::text_of(&trace.line.line()).as_slice());
     text.push_all(b"\n");
     text
 }

@@ -1,6 +1,6 @@
 //! Trace records.
 
-use bpf_types::Line;
+use bpf_decode::EncodedLine;
 use ocp_table::StepOutcome;
 
 /// How many trace records are kept, the last ones.
@@ -11,7 +11,8 @@ pub const TRACE_RECORDS: usize = 256;
 pub struct Trace {
     /// R0 to R10 after the instruction.
     pub registers: [u64; 11],
-    pub line: Line,
+    /// The instruction, which is decoded if the record is printed.
+    pub line: EncodedLine,
     pub id: u16,
     /// The slot of the instruction.
     pub place: u16,

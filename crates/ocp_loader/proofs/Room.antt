@@ -8,7 +8,6 @@ use Rattle.ocp_loader.specs.LineAt.{IsPlace}
 use Rattle.ocp_profile.specs.declared.profile.Profile.{Profile}
 use Rattle.bpf_types.specs.declared.line.Line.{Line}
 use Rattle.bpf_decode.specs.Mirror.Decoding.{decode_result}
-use Rattle.ocp_loader.specs.declared.fault.LoadFault.{LoadFault}
 use Rattle.ocp_loader.specs.Admitted.{HasSlots, IsAdmitted}
 use Rattle.ocp_loader.specs.LoadResult.{load_result, Loads}
 use Rattle.ocp_loader.specs.Mirror.Reading.{IsRead}
