@@ -5,7 +5,7 @@ _ocp() {
     case $command in
         asm) words='--profile --help' ;;
         bench) words='--port --program --help' ;;
-        build) words='--cores --times --help' ;;
+        build) words='--cores --times --chain --help' ;;
         check) words='--profile --pool --help' ;;
         list) words='--help' ;;
         live) words='--profile --apid --pool --journal --help' ;;
