@@ -1,9 +1,21 @@
 //! `ocp`: an engine for on-board control procedures on its ground console.
+//!
+//! It does the job that its words ask for: a command, from a source to a sink, the exit status, and
+//! on standard error a hint if an input is refused.
 #![tactic(auto)]
 
-use ocp_jobs::{Device, KeptSource, job_of_words, perform, refuse_words};
+mod hint;
+mod kept;
+mod performing;
+mod status;
+mod words;
+
+use kept::KeptSource;
+use ocp_ports::Device;
 use ocp_slices::Threaded;
+use performing::perform;
 use std::process::ExitCode;
+use words::{job_of_words, refuse_words};
 
 fn main(rt: HostRuntime) -> ExitCode {
     match job_of_words(&rt) {

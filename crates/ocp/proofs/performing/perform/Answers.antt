@@ -1,6 +1,6 @@
 use Rattle.std.proofs.Common.{arith}
 use Rattle.std.proofs.lemmas.Grind.{common_steps}
-use Rattle.ocp_jobs.proofs.performing.perform.Goals as goal
+use Rattle.ocp.proofs.performing.perform.Goals as goal
 
 pub returns-clause-performs : goal.returns-clause-performs
 returns-clause-performs g c = grind (arith, common_steps)

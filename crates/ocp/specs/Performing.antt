@@ -13,7 +13,7 @@ use Rattle.ocp_words.specs.declared.job.Settings.{Settings}
 use Rattle.ocp_console.specs.Crew.{CrewAnswers}
 use Rattle.ocp_console.specs.Reading.{IsWithin}
 use Rattle.ocp_console.specs.Script.{IsWorkless, Prints, PrintsBy, WritesScript, transcript}
-use Rattle.ocp_jobs.specs.Status.{status_of}
+use Rattle.ocp.specs.Status.{status_of}
 
 -- a run has done what it was asked for if it reached its script's end
 abbrev pub answer_of_run : Result Unit ConsoleFault → Result Bool ConsoleFault

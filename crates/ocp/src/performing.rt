@@ -3,7 +3,7 @@
 ghost use Rattle.std.specs.Prelude.{◌≡◌, ◌<◌, ◌^◌, ◌-◌, IfSome};
 ghost use Rattle.std.specs.Process.{exit_status};
 ghost use Rattle.ocp_ports.specs.Outcomes.{TellsReads, TellsWrites};
-ghost use Rattle.ocp_jobs.specs.Performing.{Answers, Leaves, Performs};
+ghost use Rattle.ocp.specs.Performing.{Answers, Leaves, Performs};
 
 use crate::hint::say_hint;
 use crate::kept::KeptSource;

@@ -1,5 +1,5 @@
 use Rattle.std.proofs.Common.{◌≤◌}
-use Rattle.ocp_jobs.proofs.kept.newlines_in.Given as goal
+use Rattle.ocp.proofs.kept.newlines_in.Given as goal
 
 -- no more newlines than octets so far
 abbrev pub invariant-loop-octet : goal.invariant-loop-octet

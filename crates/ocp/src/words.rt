@@ -5,7 +5,7 @@ ghost use Rattle.std.specs.Process.{exit_status};
 ghost use Rattle.clap.specs.Words.{subcommand_of};
 ghost use Rattle.ocp_words.specs.Jobs.{IsJob, HasDefaults};
 ghost use Rattle.ocp_words.specs.Words.{ocp};
-ghost use Rattle.ocp_jobs.specs.Status.{IsWordsStatus};
+ghost use Rattle.ocp.specs.Status.{IsWordsStatus};
 
 use crate::status::machine_fault;
 use ocp_words::{Job, WordsFault, not_utf8, read_words};

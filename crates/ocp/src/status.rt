@@ -2,7 +2,7 @@
 
 ghost use Rattle.std.specs.Prelude.{◌≡◌};
 ghost use Rattle.std.specs.Process.{exit_status};
-ghost use Rattle.ocp_jobs.specs.Status.{status_of as status_of_answer};
+ghost use Rattle.ocp.specs.Status.{status_of as status_of_answer};
 
 use ocp_ports::ConsoleFault;
 use std::process::ExitCode;
