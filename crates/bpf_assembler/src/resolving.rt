@@ -57,7 +57,7 @@ fn resolve<A: Allocator>(labels: &BTreeMap<&[u8], u64, A>, row: &Row<'_>) -> Res
 }
 
 /// The octets of the instructions of all rows.
-pub fn resolve_all<A: Allocator, B: Allocator>(
+pub(crate) fn resolve_all<A: Allocator, B: Allocator>(
     alloc: B,
     labels: &BTreeMap<&[u8], u64, A>,
     rows: &[Row<'_>],
@@ -77,7 +77,7 @@ pub fn resolve_all<A: Allocator, B: Allocator>(
 }
 
 /// The number of the line of the last instruction whose place is no greater than the slot.
-pub fn line_up_to(rows: &[Row<'_>], slot: u16) -> u64
+pub(crate) fn line_up_to(rows: &[Row<'_>], slot: u16) -> u64
     ensures { IsLineUpTo (map entry rows.now) slot result }
 {
     let mut number = 0;

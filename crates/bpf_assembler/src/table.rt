@@ -11,14 +11,14 @@ use std::alloc::{AllocError, Allocator};
 use std::collections::BTreeMap;
 
 /// The place of the label.
-pub fn place_at<A: Allocator>(labels: &BTreeMap<&[u8], u64, A>, name: &[u8]) -> Option<u64>
+pub(crate) fn place_at<A: Allocator>(labels: &BTreeMap<&[u8], u64, A>, name: &[u8]) -> Option<u64>
     ensures { result ≡ label_at labels.now name.now }
 {
     labels.get(name).copied()
 }
 
 /// Puts a label at a place, and returns the place that it had.
-pub fn put<'a, A: Allocator + Clone>(
+pub(crate) fn put<'a, A: Allocator + Clone>(
     labels: &mut BTreeMap<&'a [u8], u64, A>,
     name: &'a [u8],
     place: u64,
@@ -34,7 +34,7 @@ pub fn put<'a, A: Allocator + Clone>(
 /// An instruction with the number of its line and its place, and the label's name that is in place
 /// of its distance.
 #[derive(Clone, Copy)]
-pub struct Row<'a> {
+pub(crate) struct Row<'a> {
     pub number: u64,
     pub place: u64,
     pub line: Line,
@@ -44,7 +44,7 @@ pub struct Row<'a> {
 /// The labels and the instructions of the lines so far, how many lines those are, and the slot
 /// after them.
 #[derive(Drop)]
-pub struct Table<'a, A: Allocator> {
+pub(crate) struct Table<'a, A: Allocator> {
     pub labels: BTreeMap<&'a [u8], u64, A>,
     pub rows: Vec<Row<'a>, A>,
     pub lines: u64,

@@ -63,7 +63,7 @@ fn row(opcode: u8, dst: Reg, src: Reg, offset: i16, imm: i32) -> Fields
 /// The fields of the first slot: the instruction table (RFC 9669, sections 3 to 5).
 #[inline(always)]
 #[rattlefmt::skip]
-pub fn first_fields(line: &Line) -> Fields
+fn first_fields(line: &Line) -> Fields
     ensures { result ≡ first_slot line.now }
 {
     let r0 = Reg::zero();

@@ -145,7 +145,7 @@ fn store_of(fields: &Fields) -> Option<Line>
 /// The instruction of one slot that these fields spell, by its class (RFC 9669, section 3.3): each
 /// field that its row does not name is zero.
 #[inline(always)]
-pub fn short_of(fields: &Fields) -> Option<Line>
+pub(crate) fn short_of(fields: &Fields) -> Option<Line>
     ensures { result ≡ short_at fields.now }
 {
     match fields.opcode % 8 {

@@ -15,7 +15,7 @@ use bpf_types::{Extension, Operand, Reg, SwapWidth, Width};
 
 /// The register that the token names: r0 to r10.
 #[tactic(auto, using(crate::proofs::FieldLemmas::register_text))]
-pub fn register(token: &[u8]) -> Option<Reg>
+pub(crate) fn register(token: &[u8]) -> Option<Reg>
     ensures some { IfSome result (λ n. IsRegister token.now n) }
     ensures none { IfNone result ((n : ℕ) → IsRegister token.now n → ⊥) }
 {
@@ -49,7 +49,7 @@ fn as_signed(number: i128) -> i128
 }
 
 /// The immediate that the token is.
-pub fn immediate(token: &[u8]) -> Result<i32, LineFault>
+pub(crate) fn immediate(token: &[u8]) -> Result<i32, LineFault>
     ensures { Gives (λ z. z) (IsImmediate token.now) (FitsSigned w32) result }
 {
     match i32::try_from(as_signed(integer(token)?)) {
@@ -59,7 +59,7 @@ pub fn immediate(token: &[u8]) -> Result<i32, LineFault>
 }
 
 /// The register or the immediate that the token is.
-pub fn second(token: &[u8]) -> Result<Operand, LineFault>
+pub(crate) fn second(token: &[u8]) -> Result<Operand, LineFault>
     ensures { Gives (λ o. o) (IsSecond token.now) IsOperand result }
 {
     match register(token) {
@@ -80,7 +80,7 @@ fn distance(token: &[u8]) -> Result<i128, LineFault>
 }
 
 /// The distance of 16 bits that the token is.
-pub fn short_distance(token: &[u8]) -> Result<i16, LineFault>
+pub(crate) fn short_distance(token: &[u8]) -> Result<i16, LineFault>
     ensures { Gives (λ z. z) (IsDistance token.now) (FitsSigned w16) result }
 {
     i16::try_from(distance(token)?).map_err(|_| LineFault::Range)
@@ -94,7 +94,7 @@ fn long_distance(token: &[u8]) -> Result<i32, LineFault>
 }
 
 /// The distance of 16 bits that the token is, or the name with a distance of 0.
-pub fn short_target(token: &[u8]) -> Result<(i16, Option<&[u8]>), LineFault>
+pub(crate) fn short_target(token: &[u8]) -> Result<(i16, Option<&[u8]>), LineFault>
     ensures { Gives target_of (IsTarget token.now) (λ w. FitsSigned w16 w.0) result }
 {
     if is_name(token) {
@@ -104,7 +104,7 @@ pub fn short_target(token: &[u8]) -> Result<(i16, Option<&[u8]>), LineFault>
 }
 
 /// The distance of 32 bits that the token is, or the name with a distance of 0.
-pub fn long_target(token: &[u8]) -> Result<(i32, Option<&[u8]>), LineFault>
+pub(crate) fn long_target(token: &[u8]) -> Result<(i32, Option<&[u8]>), LineFault>
     ensures { Gives target_of (IsTarget token.now) (λ w. FitsSigned w32 w.0) result }
 {
     if is_name(token) {
@@ -114,14 +114,14 @@ pub fn long_target(token: &[u8]) -> Result<(i32, Option<&[u8]>), LineFault>
 }
 
 /// The width that the token gives, from which a sign is extended.
-pub fn extension(width: Width, token: &[u8]) -> Result<Extension, LineFault>
+pub(crate) fn extension(width: Width, token: &[u8]) -> Result<Extension, LineFault>
     ensures { Gives (bits_in width) (IsWidth token.now) (HasExtension width) result }
 {
     Extension::new(width, numeral(token)?).ok_or(LineFault::Range)
 }
 
 /// The width of a byte order instruction that the token gives.
-pub fn swap_width(token: &[u8]) -> Result<SwapWidth, LineFault>
+pub(crate) fn swap_width(token: &[u8]) -> Result<SwapWidth, LineFault>
     ensures { Gives swap_width_bits (IsNumeral token.now) HasSwapWidth result }
 {
     SwapWidth::new(numeral(token)?).ok_or(LineFault::Range)
@@ -134,7 +134,7 @@ fn all_word(octets: &[u8]) -> bool
 }
 
 /// Whether the token is a label's name.
-pub fn is_name(token: &[u8]) -> bool
+pub(crate) fn is_name(token: &[u8]) -> bool
     ensures { IsTrue result ↔ IsName token.now }
 {
     match token {

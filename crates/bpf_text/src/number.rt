@@ -31,7 +31,7 @@ fn in_base(base: u32, octets: &[u8]) -> Result<u64, LineFault>
 }
 
 /// The number of 64 bits that the octets spell: decimal digits, or `0x` and hexadecimal ones.
-pub fn numeral(octets: &[u8]) -> Result<u64, LineFault>
+pub(crate) fn numeral(octets: &[u8]) -> Result<u64, LineFault>
     ensures { Gives (λ n. n) (IsNumeral octets.now) (λ n. n < 2 ^ 64) result }
 {
     match octets {

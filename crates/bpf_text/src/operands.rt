@@ -18,7 +18,7 @@ use bpf_types::{Extension, Operand, Reg, SwapWidth, Width};
 /// reads an operand answers `None` if the tokens do not have its form. For a number out of its
 /// range it answers another one, so that Syntax is found before Range.
 #[derive(Drop)]
-pub struct Operands<'t, 'a> {
+pub(crate) struct Operands<'t, 'a> {
     pub rest: &'t [&'a [u8]],
     pub out_of_range: bool,
 }

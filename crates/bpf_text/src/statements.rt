@@ -236,7 +236,7 @@ fn complete<'a>(
 
 /// The instruction of these tokens.
 #[inline(never)]
-pub fn statement<'a>(tokens: &[&'a [u8]]) -> Result<Statement<'a>, LineFault>
+pub(crate) fn statement<'a>(tokens: &[&'a [u8]]) -> Result<Statement<'a>, LineFault>
     ensures { JudgesForm (texts tokens.now) result }
 {
     let mut operands = Operands {

@@ -14,7 +14,7 @@ pub enum Scan<'a> {
     Found(&'a [u8], &'a [u8]),
 }
 
-pub fn is_word_octet(octet: u8) -> bool
+pub(crate) fn is_word_octet(octet: u8) -> bool
     ensures { result ≡ is_word octet }
 {
     matches!(octet, b'0'..=b'9' | b'A'..=b'Z' | b'a'..=b'z' | b'_')
@@ -33,7 +33,7 @@ fn is_sign_octet(octet: u8) -> bool
 }
 
 /// The number of octets in the longest run of letters, digits and `_` at the front.
-pub fn run_len(text: &[u8]) -> usize
+pub(crate) fn run_len(text: &[u8]) -> usize
     ensures bound { result ≤ length text.now }
     ensures run { AllWord (take result text.now) }
     ensures longest { NoWord (drop result text.now) }

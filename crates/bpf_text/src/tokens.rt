@@ -6,10 +6,10 @@ use crate::token::{Scan, next_token};
 use arrayvec::ArrayVec;
 
 /// No line of the grammar has more tokens.
-pub const MAX_TOKENS: usize = 9;
+const MAX_TOKENS: usize = 9;
 
 /// The tokens of a line; `None` if octets of it begin no token, or there are too many.
-pub fn tokens(line: &[u8]) -> Option<ArrayVec<&[u8], MAX_TOKENS>>
+pub(crate) fn tokens(line: &[u8]) -> Option<ArrayVec<&[u8], MAX_TOKENS>>
     ensures some { IfSome result
         (λ found. HasTokens line.now (map (λ token. token.now) found.items)) }
     ensures none { IfNone result ((ts : List (List ℕ)) →

@@ -1,10 +1,10 @@
 //! What instructions compute: arithmetic, byte order and the tests of jumps.
 #![tactic(auto)]
 
-pub mod arithmetic;
-pub mod jump;
+mod arithmetic;
+mod jump;
 pub mod laws;
-pub mod sizes;
+mod sizes;
 
 pub use arithmetic::{arithmetic_result, byte_order_result, negation, sign_extension};
 pub use jump::is_taken;

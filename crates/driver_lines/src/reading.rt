@@ -54,7 +54,7 @@ pub fn or_memory<T: Drop>(done: Result<T, AllocError>) -> Result<T, Fault> {
 
 /// The words of a line: the parts between spaces. A space between double quotes is part of its
 /// word.
-pub fn words<'a>(alloc: Global, line: &'a str) -> Result<Vec<&'a str>, Fault> {
+pub(crate) fn words<'a>(alloc: Global, line: &'a str) -> Result<Vec<&'a str>, Fault> {
     let mut words = Vec::new(alloc);
     let mut start = 0usize;
     let mut is_quoted = false;

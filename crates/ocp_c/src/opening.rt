@@ -55,7 +55,7 @@ pub(crate) fn profile_of(
 }
 
 /// An engine. Refused as `profile_of` is, and after that if there is no memory.
-pub fn open(
+pub(crate) fn open(
     alloc: Global,
     profile: u32,
     apid: u32,

@@ -31,7 +31,7 @@ const REPORTS: usize = 1_600 + 64 * 2;
 const ENGINE: usize = 1_920;
 
 /// The octets of the pieces that an open takes with any numbers: 87 of its 90.
-pub const FIXED: usize = PROCEDURES + 16 * (PROGRAM + MACHINE) + LINES + TRACES + REPORTS + ENGINE;
+const FIXED: usize = PROCEDURES + 16 * (PROGRAM + MACHINE) + LINES + TRACES + REPORTS + ENGINE;
 
 // A number of octets, rounded up to a multiple of 16.
 fn round_up(octets: usize) -> usize

@@ -12,10 +12,10 @@ use crate::range::{Range, between, only};
 use bpf_types::Reg;
 
 /// The number of the engine call that takes a word from the mailbox.
-pub const NEXT_PARAM: i32 = 4;
+pub(crate) const NEXT_PARAM: i32 = 4;
 
 /// The number of the engine call that ends a step.
-pub const STEP_END: i32 = 5;
+pub(crate) const STEP_END: i32 = 5;
 
 /// What is known of R0 after an engine call: 0 or 1 after `next_param`, 0 after the end of a step.
 fn r0_after(number: i32) -> Option<Range>
@@ -31,7 +31,7 @@ fn r0_after(number: i32) -> Option<Range>
 }
 
 /// Whether an engine call may write R1.
-pub fn may_write_r1(number: i32) -> bool
+pub(crate) fn may_write_r1(number: i32) -> bool
     ensures four { IsTrue result → unsigned_abs number ≡ 4 }
     ensures other { (result ≡ false) → unsigned_abs number ≢ 4 }
 {
@@ -39,7 +39,7 @@ pub fn may_write_r1(number: i32) -> bool
 }
 
 /// What is known after an engine call, whatever it answers.
-pub fn after_engine_call(node: &Node, number: i32) -> Node
+pub(crate) fn after_engine_call(node: &Node, number: i32) -> Node
     ensures { (certificate : Certificate) (s : State) (r0 : ℕ) (r1 : Option ℕ) →
         Matches certificate node.now s → IsAnswer number r0 r1 →
         Matches certificate result (state_after_engine_call s r0 r1) }

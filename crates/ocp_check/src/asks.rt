@@ -33,7 +33,7 @@ fn line_asks_well(row: &Row, line: Line, words: u16) -> bool
 }
 
 /// The same of a slot of the image, by what the certificate says there.
-pub fn slot_asks_well<A: Allocator>(
+pub(crate) fn slot_asks_well<A: Allocator>(
     program: &Program<A>,
     certificate: &[Option<Node>],
     slot: u16,
@@ -53,7 +53,7 @@ pub fn slot_asks_well<A: Allocator>(
 }
 
 /// One more than the greatest index of a word that a call of the pool may ask for, if it is known.
-pub fn words_asked<A: Allocator>(
+pub(crate) fn words_asked<A: Allocator>(
     program: &Program<A>,
     certificate: &[Option<Node>],
 ) -> Option<u16> {

@@ -29,7 +29,7 @@ pub struct Node {
 
 /// What is known after a local call, from what is known at the call and of R0 at its end: R6 to
 /// R10 are as they were, and so is the stack from an address on. R1 to R5 are unknown.
-pub fn after_return(node: &Node, promise: Option<Range>, floor: u64) -> Node
+pub(crate) fn after_return(node: &Node, promise: Option<Range>, floor: u64) -> Node
     ensures { result ≡ node_after_return node.now promise floor }
 {
     let words = node.words;

@@ -12,7 +12,7 @@ use crate::covering::{covers, node_at};
 use crate::range::{between, only};
 use crate::steps::is_kept;
 use crate::word::WORDS;
-use bpf_step::frame::FRAME_POINTER;
+use bpf_step::FRAME_POINTER;
 use bpf_step::laws::machines_started_anew_are_as_new;
 use ocp_loader::{MAX_SLOTS, Program};
 use ocp_regions::{ARGUMENT_OCTETS, ARGUMENTS, memories_have_octets};
@@ -20,7 +20,7 @@ use std::alloc::Allocator;
 
 /// What is known of a machine that is started: R1 is the address of the arguments, R2 their number,
 /// R10 the end of the stack, and all other registers are zero.
-pub fn at_start() -> Node
+pub(crate) fn at_start() -> Node
     ensures { result ≡ node_at_start }
 {
     let zero = only(0);
@@ -42,7 +42,7 @@ pub fn at_start() -> Node
 
 /// Whether what the certificate says at a slot is kept by the instruction there. A slot of which it
 /// says nothing is kept: no machine comes there.
-pub fn is_kept_at<A: Allocator>(
+pub(crate) fn is_kept_at<A: Allocator>(
     program: &Program<A>,
     certificate: &[Option<Node>],
     slot: u16,

@@ -9,7 +9,7 @@ use crate::range::Range;
 use bpf_types::Reg;
 
 /// The most counters of an image.
-pub const COUNTERS: usize = 8;
+pub(crate) const COUNTERS: usize = 8;
 
 /// A register that comes nearer to a limit, from below or from above.
 #[derive(Clone, Copy, PartialEq, Eq, Debug)]
@@ -31,7 +31,7 @@ pub struct Rank {
 
 /// What becomes of a register.
 #[derive(Clone, Copy, Debug)]
-pub enum Step {
+pub(crate) enum Step {
     /// It stays as it is.
     Kept,
     /// A number is added, modulo 2 ^ 64.
@@ -41,7 +41,7 @@ pub enum Step {
 }
 
 /// What becomes of the eleven registers.
-pub type Steps = [Step; 11];
+pub(crate) type Steps = [Step; 11];
 
 /// A sum that grows by at most `more`, and then falls by `less`.
 #[derive(Clone, Copy)]
@@ -168,7 +168,7 @@ fn step_of(steps: &Steps, register: Reg) -> Step
 
 /// How many instructions may follow an instruction, beside the shares of the counters before it:
 /// no more than this by the rank of the place where it leads.
-pub fn ahead_by(
+pub(crate) fn ahead_by(
     counters: &[Counter],
     was: &[bool; COUNTERS],
     rank: &Rank,

@@ -15,7 +15,7 @@ use crate::word::{WORDS, Words, free_base, is_word_shifted};
 use bpf_types::{Operand, Reg};
 
 /// What is known of a register.
-pub fn range_of(row: &Row, source: Reg) -> Option<Range>
+pub(crate) fn range_of(row: &Row, source: Reg) -> Option<Range>
     ensures value { result ≡ slice_index_or row.now source None }
     ensures meaning { (registers : List ℕ) → AreIn row.now registers →
         IsIn result (slice_index registers source) }
@@ -24,7 +24,7 @@ pub fn range_of(row: &Row, source: Reg) -> Option<Range>
 }
 
 /// What is known of an operand.
-pub fn range_of_operand(row: &Row, operand: Operand) -> Option<Range>
+pub(crate) fn range_of_operand(row: &Row, operand: Operand) -> Option<Range>
     ensures { (registers : List ℕ) → AreIn row.now registers →
         IsIn result (operand_in registers operand) }
 {
@@ -48,7 +48,7 @@ fn are_within(inner: &Row, outer: &Row) -> bool
 }
 
 /// Whether what the certificate says at a place follows from a node.
-pub fn covers(certificate: &[Option<Node>], place: usize, from: &Node) -> bool
+pub(crate) fn covers(certificate: &[Option<Node>], place: usize, from: &Node) -> bool
     ensures { IsTrue result → Covers certificate.now place from.now }
 {
     match certificate.get(place) {
@@ -141,7 +141,12 @@ fn are_shifted(shifts: &[Form; BASES], from: &Node, node: &Node) -> bool
 }
 
 /// A node with one register changed.
-pub fn with_register(node: &Node, register: Reg, known: Option<Range>, form: Option<Form>) -> Node
+pub(crate) fn with_register(
+    node: &Node,
+    register: Reg,
+    known: Option<Range>,
+    form: Option<Form>,
+) -> Node
     ensures { result ≡ record node.now {
       row = slice_set node.now.row register known;
       forms = slice_set node.now.forms register form;
@@ -169,7 +174,7 @@ fn row_with_known(row: &Row, forms: &Forms, register: Reg, known: Option<Range>)
 }
 
 /// A node with more known of a register, and of those that are tied to it.
-pub fn with_known(node: &Node, register: Reg, known: Option<Range>) -> Node
+pub(crate) fn with_known(node: &Node, register: Reg, known: Option<Range>) -> Node
     ensures { (certificate : Certificate) (s : State) → Matches certificate node.now s →
         IsIn known (slice_index s.registers register) → Matches certificate result s }
 {
@@ -180,7 +185,7 @@ pub fn with_known(node: &Node, register: Reg, known: Option<Range>) -> Node
 }
 
 /// A node that has a form of a register, unless its number is known or there is no free base.
-pub fn with_base(node: &Node, register: Reg) -> Node
+pub(crate) fn with_base(node: &Node, register: Reg) -> Node
     ensures { (certificate : Certificate) (s : State) → Matches certificate node.now s →
         Matches certificate result s }
 {
@@ -201,7 +206,7 @@ pub fn with_base(node: &Node, register: Reg) -> Node
 }
 
 /// The same of a register that an operand is.
-pub fn with_base_of_operand(node: &Node, operand: &Operand) -> Node
+pub(crate) fn with_base_of_operand(node: &Node, operand: &Operand) -> Node
     ensures { (certificate : Certificate) (s : State) → Matches certificate node.now s →
         Matches certificate result s }
 {
@@ -212,7 +217,7 @@ pub fn with_base_of_operand(node: &Node, operand: &Operand) -> Node
 }
 
 /// The form of a register.
-pub fn form_of(forms: &Forms, register: Reg) -> Option<Form>
+pub(crate) fn form_of(forms: &Forms, register: Reg) -> Option<Form>
     ensures { (bases : ℕ → ℕ) (registers : List ℕ) → AreFormed forms.now bases registers →
         IsForm result bases (slice_index registers register) }
 {
@@ -220,7 +225,7 @@ pub fn form_of(forms: &Forms, register: Reg) -> Option<Form>
 }
 
 /// The form of a register; that of its number, if it is known.
-pub fn tie_of(node: &Node, register: Reg) -> Option<Form>
+pub(crate) fn tie_of(node: &Node, register: Reg) -> Option<Form>
     ensures { (bases : ℕ → ℕ) (registers : List ℕ) → AreIn node.now.row registers →
         AreFormed node.now.forms bases registers →
         IsForm result bases (slice_index registers register) }
@@ -232,7 +237,7 @@ pub fn tie_of(node: &Node, register: Reg) -> Option<Form>
 }
 
 /// The form of an operand.
-pub fn form_of_operand(forms: &Forms, operand: &Operand) -> Option<Form>
+pub(crate) fn form_of_operand(forms: &Forms, operand: &Operand) -> Option<Form>
     ensures { (bases : ℕ → ℕ) (registers : List ℕ) → AreFormed forms.now bases registers →
         IsForm result bases (operand_in registers operand.now) }
 {
@@ -243,7 +248,7 @@ pub fn form_of_operand(forms: &Forms, operand: &Operand) -> Option<Form>
 }
 
 /// What the certificate says at a slot, if the slot may be reached.
-pub fn node_at(certificate: &[Option<Node>], slot: u16) -> Option<Node>
+pub(crate) fn node_at(certificate: &[Option<Node>], slot: u16) -> Option<Node>
     ensures some { IfSome result (λ node. (s : State) → s.place ≡ slot → Fits certificate.now s →
         Matches certificate.now node s) }
     ensures none { IfNone result ((s : State) → s.place ≡ slot → Fits certificate.now s → ⊥) }
@@ -255,7 +260,7 @@ pub fn node_at(certificate: &[Option<Node>], slot: u16) -> Option<Node>
 }
 
 /// What the certificate says of the registers at a place, if the place may be reached.
-pub fn row_at(certificate: &[Option<Node>], place: usize) -> Option<Row>
+pub(crate) fn row_at(certificate: &[Option<Node>], place: usize) -> Option<Row>
     ensures some { IfSome result (λ row. (s : State) → s.place ≡ place → Fits certificate.now s →
         AreIn row s.registers) }
     ensures none { IfNone result ((s : State) → s.place ≡ place → Fits certificate.now s → ⊥) }

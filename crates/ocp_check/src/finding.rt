@@ -406,7 +406,7 @@ fn narrower<A: Allocator + Copy>(
 }
 
 /// What is known at each slot that may be reached: a certificate, if the search came to its end.
-pub fn find<A: Allocator + Copy>(
+pub(crate) fn find<A: Allocator + Copy>(
     alloc: A,
     program: &Program<A>,
 ) -> Result<Vec<Option<Node>, A>, AllocError> {

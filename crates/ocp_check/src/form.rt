@@ -23,10 +23,10 @@ pub struct Form {
 pub type Forms = [Option<Form>; 11];
 
 /// The most bases at a slot.
-pub const BASES: usize = 20;
+pub(crate) const BASES: usize = 20;
 
 /// The form of a number that is known, and else the form that is given.
-pub fn form_of_known(known: Option<Range>, form: Option<Form>) -> Option<Form>
+pub(crate) fn form_of_known(known: Option<Range>, form: Option<Form>) -> Option<Form>
     ensures { (bases : ℕ → ℕ) (v : ℕ) → IsIn known v → IsForm form bases v →
         IsForm result bases v }
 {
@@ -41,7 +41,7 @@ pub fn form_of_known(known: Option<Range>, form: Option<Form>) -> Option<Form>
 }
 
 /// The form of a sum with a number.
-pub fn form_of_sum(a: Form, number: u64) -> Form
+pub(crate) fn form_of_sum(a: Form, number: u64) -> Form
     ensures { (bases : ℕ → ℕ) (x : ℕ) → IsForm (Some a) bases x →
         IsForm (Some result) bases ((x + number) % 2 ^ 64) }
 {
@@ -102,7 +102,7 @@ fn form_of_sum_with(first: Option<u64>, b: Option<Form>) -> Option<Form>
 }
 
 /// The form of the result of an operation, by those of its operands and what is known of them.
-pub fn form_of_result(
+pub(crate) fn form_of_result(
     width: Width,
     operation: Operation,
     a: Option<Form>,
@@ -152,7 +152,7 @@ fn both(a: Range, b: Range) -> Range
 }
 
 /// What is known of a number, if more is known of another one.
-pub fn range_by_tie(
+pub(crate) fn range_by_tie(
     range: Option<Range>,
     form: Option<Form>,
     other: Option<Form>,
@@ -173,7 +173,7 @@ pub fn range_by_tie(
 }
 
 /// Whether no register is of a base.
-pub fn is_free(forms: &Forms, base: u8) -> bool
+pub(crate) fn is_free(forms: &Forms, base: u8) -> bool
     ensures { IsTrue result → (k : ℕ) → k < 11 → (f : Form) →
         slice_index_or forms.now k None ≡ Some f → f.base ≢ base }
 {
@@ -186,7 +186,7 @@ pub fn is_free(forms: &Forms, base: u8) -> bool
 }
 
 /// Whether a form is of a base.
-pub fn is_of_base(form: Option<Form>, base: u8) -> bool
+pub(crate) fn is_of_base(form: Option<Form>, base: u8) -> bool
     ensures { IsFalse result → (f : Form) → form ≡ Some f → f.base ≢ base }
 {
     match form {
@@ -197,7 +197,7 @@ pub fn is_of_base(form: Option<Form>, base: u8) -> bool
 
 /// Whether a form follows from another one, if the number of each base becomes the one of its
 /// shift.
-pub fn is_shifted(shifts: &[Form; BASES], from: Option<Form>, to: Option<Form>) -> bool
+pub(crate) fn is_shifted(shifts: &[Form; BASES], from: Option<Form>, to: Option<Form>) -> bool
     ensures { IsTrue result → (bases : ℕ → ℕ) (v : ℕ) → IsForm from bases v →
         IsForm to (bases_after shifts.now bases) v }
 {
@@ -212,7 +212,7 @@ pub fn is_shifted(shifts: &[Form; BASES], from: Option<Form>, to: Option<Form>) 
 }
 
 /// The same of two forms and the shift of the base of the second one.
-pub fn is_shifted_by(shift: &Form, from: Form, to: Form) -> bool
+pub(crate) fn is_shifted_by(shift: &Form, from: Form, to: Form) -> bool
     ensures { IsTrue result → (bases : ℕ → ℕ) (v : ℕ) → IsForm (Some from) bases v →
         v % 2 ^ 64 ≡ (to.times * number_by shift.now bases + to.plus) % 2 ^ 64 }
 {

@@ -5,31 +5,32 @@
 //! image with such a certificate never does.
 #![tactic(auto)]
 
-pub mod answers;
-pub mod asks;
-pub mod certificate;
-pub mod checker;
-pub mod counting;
-pub mod covering;
-pub mod examining;
-pub mod finding;
-pub mod form;
+mod answers;
+mod asks;
+mod certificate;
+mod checker;
+mod counting;
+mod covering;
+mod examining;
+mod finding;
+mod form;
 pub mod laws;
-pub mod loading;
-pub mod range;
-pub mod ranking;
-pub mod refusal;
-pub mod rounds;
-pub mod steps;
-pub mod tying;
-pub mod word;
+mod loading;
+mod range;
+mod ranking;
+mod refusal;
+mod rounds;
+mod steps;
+mod tying;
+mod word;
 
 pub use asks::check_pool;
 pub use certificate::{Node, Row};
 pub use checker::check;
+pub use counting::{Counter, Rank};
 pub use examining::{Findings, examine};
-pub use form::Form;
+pub use form::{Form, Forms};
 pub use range::{Range, Stride};
 pub use refusal::{Refusal, Why};
 pub use rounds::check_rounds;
-pub use word::Word;
+pub use word::{Word, Words};

@@ -7,7 +7,7 @@ use crate::range::{Range, between};
 use bpf_types::Size;
 
 /// The numbers that octets of a size make.
-pub fn numbers_of(size: Size) -> Option<Range>
+pub(crate) fn numbers_of(size: Size) -> Option<Range>
     ensures { (v : ℕ) → v < 256 ^ octets_in size → IsIn result v }
 {
     let high = match size {

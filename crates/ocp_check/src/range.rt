@@ -35,7 +35,7 @@ pub struct Range {
 
 /// A test of numbers of a width that held, or did not.
 #[derive(Clone, Copy)]
-pub struct Test {
+pub(crate) struct Test {
     pub width: Width,
     pub comparison: Comparison,
     pub held: bool,
@@ -57,7 +57,7 @@ fn stride_of_number(number: u64) -> Stride
 }
 
 /// The stride of a range; that of its number, if it has one.
-pub fn stride_of(range: Range) -> Stride
+pub(crate) fn stride_of(range: Range) -> Stride
     ensures { (v : ℕ) → IsIn (Some range) v → IsMultiple result v }
 {
     if range.low == range.high {
@@ -68,7 +68,7 @@ pub fn stride_of(range: Range) -> Stride
 }
 
 /// The stride of numbers that have one or the other.
-pub fn lesser(a: Stride, b: Stride) -> Stride
+pub(crate) fn lesser(a: Stride, b: Stride) -> Stride
     ensures first { (v : ℕ) → IsMultiple a v → IsMultiple result v }
     ensures second { (v : ℕ) → IsMultiple b v → IsMultiple result v }
 {
@@ -82,7 +82,7 @@ pub fn lesser(a: Stride, b: Stride) -> Stride
 }
 
 /// Whether each multiple of the first stride is one of the second.
-pub fn follows(a: Stride, b: Stride) -> bool
+pub(crate) fn follows(a: Stride, b: Stride) -> bool
     ensures { IsTrue result → (v : ℕ) → IsMultiple a v → IsMultiple b v }
 {
     match (a, b) {
@@ -108,7 +108,7 @@ fn top_of(range: Range) -> u64
 }
 
 /// All numbers from a least one to a greatest one.
-pub fn between(least: u64, greatest: u64) -> Option<Range>
+pub(crate) fn between(least: u64, greatest: u64) -> Option<Range>
     ensures exact { result ≡ Some (record { low = least; high = greatest; stride = One }) }
     ensures holds { (v : ℕ) → least ≤ v → v ≤ greatest → IsIn result v }
 {
@@ -120,7 +120,7 @@ pub fn between(least: u64, greatest: u64) -> Option<Range>
 }
 
 /// One number.
-pub fn only(number: u64) -> Option<Range>
+pub(crate) fn only(number: u64) -> Option<Range>
     ensures exact { result ≡ just number }
     ensures holds { IsIn result number }
 {
@@ -128,7 +128,7 @@ pub fn only(number: u64) -> Option<Range>
 }
 
 /// The number that is known, if it is one.
-pub fn number_of(known: Option<Range>) -> Option<u64>
+pub(crate) fn number_of(known: Option<Range>) -> Option<u64>
     ensures { IfSome result (λ number. (v : ℕ) → IsIn known v → v ≡ number) }
 {
     match known {
@@ -138,7 +138,7 @@ pub fn number_of(known: Option<Range>) -> Option<u64>
 }
 
 /// Whether no number is meant.
-pub fn is_empty(known: Option<Range>) -> bool
+pub(crate) fn is_empty(known: Option<Range>) -> bool
     ensures { IsTrue result → (v : ℕ) → IsIn known v → ⊥ }
 {
     match known {
@@ -148,7 +148,7 @@ pub fn is_empty(known: Option<Range>) -> bool
 }
 
 /// Whether what is known second follows from what is known first.
-pub fn is_within(inner: Option<Range>, outer: Option<Range>) -> bool
+pub(crate) fn is_within(inner: Option<Range>, outer: Option<Range>) -> bool
     ensures { IsTrue result → (v : ℕ) → IsIn inner v → IsIn outer v }
 {
     match (inner, outer) {
@@ -164,7 +164,7 @@ pub fn is_within(inner: Option<Range>, outer: Option<Range>) -> bool
 }
 
 /// What is known of a sum modulo 2 ^ 64, if all sums wrap or none does.
-pub fn sum(a: Option<Range>, b: Option<Range>) -> Option<Range>
+pub(crate) fn sum(a: Option<Range>, b: Option<Range>) -> Option<Range>
     ensures { (x y : ℕ) → IsIn a x → IsIn b y → IsIn result ((x + y) % 2 ^ 64) }
 {
     let (a, b) = (a?, b?);
@@ -193,7 +193,7 @@ fn difference(a: Option<Range>, b: Option<Range>) -> Option<Range>
 }
 
 /// What is known of a product, if none wraps.
-pub fn product(a: Option<Range>, b: Option<Range>) -> Option<Range>
+pub(crate) fn product(a: Option<Range>, b: Option<Range>) -> Option<Range>
     ensures { (x y : ℕ) → IsIn a x → IsIn b y → IsIn result ((x * y) % 2 ^ 64) }
 {
     let (a, b) = (a?, b?);
@@ -280,7 +280,7 @@ fn sum_of_halves(a: Option<Range>, b: Option<Range>) -> Option<Range>
 }
 
 /// What is known of the result of an operation.
-pub fn result_of(
+pub(crate) fn result_of(
     width: Width,
     operation: Operation,
     a: Option<Range>,
@@ -449,7 +449,7 @@ fn refinement_of_number(test: Test, a: Range, b: Option<Range>) -> Option<Range>
 
 /// What is known of the first operand after a test that held, or did not. A test of 32 bits shows
 /// something of a number that has no more.
-pub fn refinement(test: Test, a: Option<Range>, b: Option<Range>) -> Option<Range>
+pub(crate) fn refinement(test: Test, a: Option<Range>, b: Option<Range>) -> Option<Range>
     ensures { (x y : ℕ) → IsIn a x → IsIn b y →
         is_taken test.width test.comparison x y ≡ test.held → IsIn result x }
 {
@@ -462,7 +462,7 @@ pub fn refinement(test: Test, a: Option<Range>, b: Option<Range>) -> Option<Rang
 }
 
 /// Whether the octets of an access are all in one region; a store may not be to the arguments.
-pub fn is_there(base: Option<Range>, offset: i16, octets: u64, writes: bool) -> bool
+pub(crate) fn is_there(base: Option<Range>, offset: i16, octets: u64, writes: bool) -> bool
     requires { (1 ≤ octets) × (octets ≤ 8) }
     ensures { IsTrue result → (x : ℕ) → IsIn base x →
         IsThere writes ((x + cast_unsigned w64 offset) % 2 ^ 64) octets }

@@ -68,7 +68,7 @@ struct Cut {
 
 /// Ranks of the slots, and the counters to which they refer.
 #[derive(Drop)]
-pub struct Ranking<A: Allocator> {
+pub(crate) struct Ranking<A: Allocator> {
     pub ranks: Vec<Rank, A>,
     pub counters: Vec<Counter, A>,
 }
@@ -468,7 +468,7 @@ fn shortest(loops: &[Loop], turn: u32) -> Option<usize> {
 
 /// Ranks of the slots, if the search came to its end: at least how many instructions may follow
 /// before the step or the local call ends.
-pub fn find_ranks<A: Allocator + Copy>(
+pub(crate) fn find_ranks<A: Allocator + Copy>(
     alloc: A,
     program: &Program<A>,
     nodes: &[Option<Node>],
@@ -497,7 +497,7 @@ pub fn find_ranks<A: Allocator + Copy>(
 }
 
 /// The most instructions from a start or the end of a step on, by the ranks.
-pub fn most_of<A: Allocator>(program: &Program<A>, all: &Ranks<'_>) -> Option<u32> {
+pub(crate) fn most_of<A: Allocator>(program: &Program<A>, all: &Ranks<'_>) -> Option<u32> {
     let mut most = most_at(all, 0)?;
     for slot in 0..program.slots() as u16 {
         if let (Some(node), Some(Line::Call { number })) = (
@@ -559,7 +559,7 @@ fn highest<A: Allocator>(program: &Program<A>, ranks: &[Rank]) -> u16 {
 
 /// Slots that may follow one another without end and without the end of a step, if the greatest
 /// ranks lead to such.
-pub fn cycle<A: Allocator>(
+pub(crate) fn cycle<A: Allocator>(
     alloc: A,
     program: &Program<A>,
     all: &Ranks<'_>,

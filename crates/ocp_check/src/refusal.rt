@@ -43,7 +43,7 @@ fn store_reason(base: Reg, known: Option<Range>) -> Why {
 }
 
 /// Why a line is not shown, by what the certificate says at its slot.
-pub fn reason(node: &Node, line: Line) -> Why {
+pub(crate) fn reason(node: &Node, line: Line) -> Why {
     match line {
         Line::Load { base, .. } | Line::LoadExtended { base, .. } => Why::Outside(
             base,

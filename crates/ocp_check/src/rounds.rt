@@ -34,7 +34,7 @@ use std::alloc::Allocator;
 
 /// Ranks of the slots, the counters to which they refer, and what is known at each slot.
 #[derive(Clone, Copy)]
-pub struct Ranks<'a> {
+pub(crate) struct Ranks<'a> {
     pub nodes: &'a [Option<Node>],
     pub ranks: &'a [Rank],
     pub counters: &'a [Counter],
@@ -70,7 +70,7 @@ fn step_by(node: &Node, width: Width, operation: Operation, dst: Reg, operand: O
 }
 
 /// What becomes of the register that a line writes.
-pub fn step_of_line(node: &Node, line: &Line) -> Step
+pub(crate) fn step_of_line(node: &Node, line: &Line) -> Step
     ensures { (certificate : Certificate) (s : State) (width : Width) (operation : Operation)
         (dst : ℕ) (operand : Operand) → line.now ≡ kind.Arithmetic width operation dst operand →
         Matches certificate node.now s → IsMoved result (slice_index s.registers dst)
@@ -90,7 +90,7 @@ pub fn step_of_line(node: &Node, line: &Line) -> Step
 }
 
 /// One register is changed.
-pub fn steps_with(register: Reg, step: Step) -> Steps
+pub(crate) fn steps_with(register: Reg, step: Step) -> Steps
     ensures { result ≡ slice_set kept_steps register step }
 {
     let mut steps = [Kept; 11];
@@ -99,7 +99,7 @@ pub fn steps_with(register: Reg, step: Step) -> Steps
 }
 
 /// An engine call changes R0, and may change R1.
-pub fn steps_of_call() -> Steps
+pub(crate) fn steps_of_call() -> Steps
     ensures { (old : List ℕ) (r0 : ℕ) (r1 : Option ℕ) → length old ≡ 11 →
         AreMoved result old (maybe_set (slice_set old 0 r0) 1 r1) }
 {
@@ -137,7 +137,7 @@ fn rank_at(ranks: &[Rank], place: usize) -> Option<Rank>
 }
 
 /// How many instructions may follow at a place to which an instruction leads.
-pub fn ahead_at(
+pub(crate) fn ahead_at(
     all: &Ranks<'_>,
     was: &[bool; COUNTERS],
     before: &Row,
@@ -159,7 +159,7 @@ pub fn ahead_at(
 }
 
 /// How many instructions may follow at a place, whatever leads there.
-pub fn most_at(all: &Ranks<'_>, place: usize) -> Option<u64>
+pub(crate) fn most_at(all: &Ranks<'_>, place: usize) -> Option<u64>
     ensures { IfSome result (λ most. (t : State) → t.place ≡ place → Fits all.now.nodes.now t →
         value_at all.now.ranks.now all.now.counters.now t.place t.registers ≤ most) }
 {
@@ -167,7 +167,7 @@ pub fn most_at(all: &Ranks<'_>, place: usize) -> Option<u64>
 }
 
 /// How many instructions may follow after a local call has ended.
-pub fn ahead_after(
+pub(crate) fn ahead_after(
     all: &Ranks<'_>,
     was: &[bool; COUNTERS],
     before: &Row,

@@ -37,7 +37,7 @@ use bpf_types::{Line, Operand, Operation, Reg, Size, Width};
 use bpf_values::size_of;
 
 /// Where a distance leads to, unless that is a negative slot.
-pub fn target(slot: u16, distance: i32) -> Option<usize>
+pub(crate) fn target(slot: u16, distance: i32) -> Option<usize>
     ensures { IfSome result (λ place. place ≡ target slot distance) }
 {
     usize::try_from(i64::from(slot) + 1 + i64::from(distance)).ok()
@@ -53,7 +53,7 @@ fn after_write(node: &Node, dst: Reg, known: Option<Range>) -> Node
 }
 
 /// What is known after an operation.
-pub fn after_operation(
+pub(crate) fn after_operation(
     node: &Node,
     width: Width,
     operation: Operation,
@@ -79,7 +79,7 @@ pub fn after_operation(
 }
 
 /// The place after a jump that is taken or not, unless that is a negative slot.
-pub fn place_after(slot: u16, distance: Option<i32>) -> Option<usize>
+pub(crate) fn place_after(slot: u16, distance: Option<i32>) -> Option<usize>
     ensures { IfSome result (λ place. place ≡ place_by slot distance) }
 {
     match distance {
@@ -112,7 +112,7 @@ fn is_kept_jumping(
 }
 
 /// What is known of the address of an access.
-pub fn address_range(row: &Row, base: Reg, offset: i16) -> Option<Range>
+fn address_range(row: &Row, base: Reg, offset: i16) -> Option<Range>
     ensures { (registers : List ℕ) → AreIn row.now registers →
         IsIn result (address_in registers base offset) }
 {
@@ -178,7 +178,7 @@ fn word_with_address(word: Option<Word>, address: u64) -> Option<Word>
 }
 
 /// The word of the stack that a load reads, if something is known of it.
-pub fn word_read(node: &Node, base: Reg, offset: i16, size: Size) -> Option<Word>
+fn word_read(node: &Node, base: Reg, offset: i16, size: Size) -> Option<Word>
     ensures { IfSome result (λ word. (bases : ℕ → ℕ) (registers : List ℕ) (m : Octets) (v : ℕ) →
         AreIn node.now.row registers → AreWords node.now.words bases m →
         number_in_memory m (address_in registers base offset) (octets_in size) ≡ Ok v →
@@ -206,7 +206,7 @@ fn after_load(node: &Node, dst: Reg, base: Reg, offset: i16, size: Size) -> Node
 }
 
 /// What is known after a store of a number.
-pub fn after_store(
+fn after_store(
     node: &Node,
     base: Reg,
     offset: i16,
@@ -231,7 +231,7 @@ pub fn after_store(
 }
 
 /// What is known at the next slot after a line that writes a register or the memory.
-pub fn after_line(node: &Node, line: &Line) -> Option<Node>
+pub(crate) fn after_line(node: &Node, line: &Line) -> Option<Node>
     ensures { IfSome result (λ next. (certificate : Certificate) (s : State) →
         Matches certificate node.now s → AccessIsThere line.now s.registers →
         LeadsTo certificate next (s.place + slots_in line.now) (step line.now s)) }
@@ -306,7 +306,7 @@ fn is_kept_calling(certificate: &[Option<Node>], slot: u16, node: &Node, number:
 }
 
 /// What is known of the first operand of a conditional jump after a test that held, or did not.
-pub fn range_by_test(row: &Row, line: &Line, held: bool) -> Option<Range>
+pub(crate) fn range_by_test(row: &Row, line: &Line, held: bool) -> Option<Range>
     ensures { (width : Width) (comparison : Comparison) (dst : ℕ) (operand : Operand)
         (distance : ℤ) (registers : List ℕ) →
         line.now ≡ kind.JumpIf width comparison dst operand distance → AreIn row.now registers →
@@ -348,7 +348,12 @@ fn is_kept_branching(certificate: &[Option<Node>], slot: u16, node: &Node, line:
 }
 
 /// What is known at the first slot of a local call: R10, and what is promised of R0 at the end.
-pub fn at_call(node: &Node, pointer: Option<Range>, promise: Option<Range>, spared: u64) -> Node
+pub(crate) fn at_call(
+    node: &Node,
+    pointer: Option<Range>,
+    promise: Option<Range>,
+    spared: u64,
+) -> Node
     requires { node.now.depth < MAX_LOCAL_CALLS }
     ensures { result ≡ record {
       row = slice_set node.now.row 10 pointer;
@@ -415,7 +420,7 @@ fn is_kept_ending(certificate: &[Option<Node>], node: &Node) -> bool
 }
 
 /// Whether what a machine at the slot does next fits the certificate, and is no fault.
-pub fn is_kept(certificate: &[Option<Node>], slot: u16, node: &Node, line: Line) -> bool
+pub(crate) fn is_kept(certificate: &[Option<Node>], slot: u16, node: &Node, line: Line) -> bool
     ensures { IsTrue result → (s : State) → s.place ≡ slot → Matches certificate.now node.now s →
         FitsAfter certificate.now s (step line s) }
 {

@@ -12,18 +12,18 @@ use crate::word::WORDS;
 const MOST_TIMES: u64 = 4096;
 
 /// How many registers and words a node has.
-pub const CELLS: usize = 11 + WORDS;
+pub(crate) const CELLS: usize = 11 + WORDS;
 
 /// What is known of the registers, and of the words after them.
 #[derive(Clone, Copy)]
-pub struct Cells {
+pub(crate) struct Cells {
     pub row: [Option<Range>; CELLS],
     pub forms: [Option<Form>; CELLS],
 }
 
 /// The registers and words of a node. Of words at other addresses than those of another node
 /// nothing is known.
-pub fn cells_of(node: &Node, other: &Node) -> Cells {
+pub(crate) fn cells_of(node: &Node, other: &Node) -> Cells {
     let mut cells = Cells {
         row: [None; CELLS],
         forms: [None; CELLS],
@@ -237,7 +237,7 @@ fn with_all_adopted(
 }
 
 /// The forms of registers at a place that is as the old node says, or as the new one.
-pub fn ties_of(old: &Cells, from: &Cells, may_grow: bool) -> [Option<Form>; CELLS] {
+pub(crate) fn ties_of(old: &Cells, from: &Cells, may_grow: bool) -> [Option<Form>; CELLS] {
     if may_grow {
         let grown = with_growth(old, from);
         common(from, &with_all_adopted(old, from, &grown))
@@ -247,7 +247,7 @@ pub fn ties_of(old: &Cells, from: &Cells, may_grow: bool) -> [Option<Form>; CELL
 }
 
 /// What is known of cells by others that are tied to them.
-pub fn narrow_by_forms(
+pub(crate) fn narrow_by_forms(
     row: &[Option<Range>; CELLS],
     forms: &[Option<Form>; CELLS],
 ) -> [Option<Range>; CELLS] {

@@ -13,7 +13,7 @@ use crate::range::{Range, is_within, number_of};
 use ocp_regions::loads_give_what_was_stored;
 
 /// How many words are known of at a slot, at most.
-pub const WORDS: usize = 8;
+pub(crate) const WORDS: usize = 8;
 
 /// The address after the stack.
 const STACK_END: u64 = 0x1000_1000;
@@ -42,7 +42,7 @@ fn is_apart(word: &Word, at: Range, octets: u64) -> bool
 }
 
 /// What is known of a word after a store to one of some addresses.
-pub fn word_after(word: Option<Word>, at: Option<Range>, octets: u64) -> Option<Word>
+fn word_after(word: Option<Word>, at: Option<Range>, octets: u64) -> Option<Word>
     requires { octets ≤ 8 }
     ensures { (bases : ℕ → ℕ) (old new : Octets) (p v : ℕ) → IsWord word bases old → IsIn at p →
         IsThere true p octets → memory_after_store old p octets v ≡ Ok new →
@@ -62,7 +62,7 @@ pub fn word_after(word: Option<Word>, at: Option<Range>, octets: u64) -> Option<
 }
 
 /// The greater of two addresses.
-pub fn later(a: u64, b: u64) -> u64
+pub(crate) fn later(a: u64, b: u64) -> u64
     ensures { result ≡ greater a b }
 {
     if a < b { b } else { a }
@@ -76,7 +76,7 @@ fn end_after(at: Range, octets: u64) -> u64
 }
 
 /// From which address on the stack is the same after a store.
-pub fn kept_after(kept: u64, at: Option<Range>, octets: u64) -> u64
+pub(crate) fn kept_after(kept: u64, at: Option<Range>, octets: u64) -> u64
     requires { octets ≤ 8 }
     ensures { (first old new : Octets) (p v : ℕ) → IsSameFrom kept first old → IsIn at p →
         IsThere true p octets → memory_after_store old p octets v ≡ Ok new →
@@ -106,7 +106,7 @@ fn whole(known: Option<Range>) -> Option<Range>
 }
 
 /// What is known of a word that has been stored.
-pub fn word_of(address: u64, known: Option<Range>, form: Option<Form>) -> Option<Word>
+fn word_of(address: u64, known: Option<Range>, form: Option<Form>) -> Option<Word>
     ensures { (bases : ℕ → ℕ) (old new : Octets) (v : ℕ) → IsIn known v → IsForm form bases v →
         IsThere true address 8 → memory_after_store old address 8 v ≡ Ok new →
         IsWord result bases new }
@@ -125,7 +125,7 @@ pub fn word_of(address: u64, known: Option<Range>, form: Option<Form>) -> Option
 
 /// Whether what is known of a word second follows from what is known of one first, if the number of
 /// each base becomes the one of its shift.
-pub fn is_word_shifted(shifts: &[Form; BASES], from: Option<Word>, to: Option<Word>) -> bool
+pub(crate) fn is_word_shifted(shifts: &[Form; BASES], from: Option<Word>, to: Option<Word>) -> bool
     ensures { IsTrue result → (bases : ℕ → ℕ) (m : Octets) → IsWord from bases m →
         IsWord to (bases_after shifts.now bases) m }
 {
@@ -141,7 +141,7 @@ pub fn is_word_shifted(shifts: &[Form; BASES], from: Option<Word>, to: Option<Wo
 }
 
 /// A word from an address on.
-pub fn above(floor: u64, word: Option<Word>) -> Option<Word>
+pub(crate) fn above(floor: u64, word: Option<Word>) -> Option<Word>
     ensures { result ≡ word_above floor word }
 {
     match word {
@@ -151,7 +151,7 @@ pub fn above(floor: u64, word: Option<Word>) -> Option<Word>
 }
 
 /// Which of the known words is at an address.
-pub fn index_of(address: u64) -> usize
+pub(crate) fn index_of(address: u64) -> usize
     ensures { result < 8 }
 {
     (STACK_END.wrapping_sub(address) / 8 % 8) as usize
@@ -172,7 +172,7 @@ fn words_after(words: &Words, at: Option<Range>, octets: u64) -> Words
 }
 
 /// The same, with the word that has been stored, if its address is known.
-pub fn words_with(
+pub(crate) fn words_with(
     words: &Words,
     at: Option<Range>,
     octets: u64,
@@ -218,7 +218,7 @@ fn is_free_of_words(words: &Words, base: u8) -> bool
 }
 
 /// A base of which no register and no word is, if there is one.
-pub fn free_base(forms: &Forms, words: &Words) -> Option<u8>
+pub(crate) fn free_base(forms: &Forms, words: &Words) -> Option<u8>
     ensures registers { IfSome result (λ base. (k : ℕ) → k < 11 → (f : Form) →
         slice_index_or forms.now k None ≡ Some f → f.base ≢ base) }
     ensures words { IfSome result (λ base. (k : ℕ) → k < 8 → (w : Word) (f : Form) →

@@ -8,7 +8,7 @@ use crate::program::MAX_SLOTS;
 use bpf_types::Line;
 
 /// The line whose first slot this is.
-pub fn line_in(lines: &[Option<Line>], slot: usize) -> Option<Line>
+pub(crate) fn line_in(lines: &[Option<Line>], slot: usize) -> Option<Line>
     ensures { result ≡ line_in lines.now slot }
 {
     lines.get(slot).copied().flatten()
@@ -85,7 +85,7 @@ fn end_fault(slots: u16, line: Option<Line>) -> Option<LoadFault>
 /// The first fault of lines that were read.
 // Not inlined, so that its loop has all registers.
 #[inline(never)]
-pub fn lines_fault(lines: &[Option<Line>]) -> Option<LoadFault>
+pub(crate) fn lines_fault(lines: &[Option<Line>]) -> Option<LoadFault>
     requires { length lines.now ≤ MAX_SLOTS }
     ensures { result ≡ lines_fault lines.now (first_bad_target lines.now (length lines.now)) }
 {

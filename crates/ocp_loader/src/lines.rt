@@ -21,7 +21,7 @@ use std::marker::Model;
 
 /// Tests the length of an image: 1 to 2,048 slots of 8 octets.
 #[tactic(auto, unfolding(crate::specs::LoadResult::load_result), using(crate::proofs::First::has_slots))]
-pub fn check_length(code: &[u8]) -> Result<(), LoadFault>
+pub(crate) fn check_length(code: &[u8]) -> Result<(), LoadFault>
     ensures ok { OnOk result (HasSlots code.now) }
     ensures read { OnOk result
         ((profile : Profile) →

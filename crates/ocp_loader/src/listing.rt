@@ -9,7 +9,7 @@ use bpf_types::Line;
 use std::alloc::Allocator;
 
 /// The number of octets of the lines of the first `slots` slots, each with a newline.
-pub fn listing_len<A: Allocator>(program: &Program<A>, slots: u16) -> usize
+pub(crate) fn listing_len<A: Allocator>(program: &Program<A>, slots: u16) -> usize
     requires { slots ≤ MAX_SLOTS }
     ensures { result ≡ length (text_below program.now slots) }
 {
@@ -33,7 +33,7 @@ fn push_line<A: Allocator>(line: Line, out: &mut Vec<u8, A>)
 }
 
 /// Appends the lines of the first `slots` slots, each with a newline. There must be room for them.
-pub fn push_listing<A: Allocator, B: Allocator>(
+pub(crate) fn push_listing<A: Allocator, B: Allocator>(
     program: &Program<A>,
     slots: u16,
     out: &mut Vec<u8, B>,

@@ -2,10 +2,10 @@
 //! engine calls that use them.
 #![tactic(auto)]
 
-pub mod call;
-pub mod engine;
-pub mod mailbox;
-pub mod pool;
+mod call;
+mod engine;
+mod mailbox;
+mod pool;
 
 pub use call::{Called, PoolFault, PoolOperation};
 pub use engine::engine_call;

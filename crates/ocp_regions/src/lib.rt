@@ -9,9 +9,9 @@
 
 mod access;
 mod extent;
-pub mod fault;
+mod fault;
 pub mod laws;
-pub mod regions;
+mod regions;
 
 pub use fault::AccessFault;
 pub use laws::{

@@ -5,7 +5,7 @@ use std::io::{ErrorKind, Read, Write};
 
 /// Gives octets of its own a few at a call, and fails at one call.
 #[derive(Drop)]
-pub struct Giver {
+pub(crate) struct Giver {
     left: &'static [u8],
     /// How many octets it gives at a call at most.
     piece: usize,
@@ -38,7 +38,7 @@ impl Read for Giver {
 
 /// Keeps what it takes, a few octets at a call, until it is full. Then it fails, or takes none.
 #[derive(Drop)]
-pub struct Taker {
+pub(crate) struct Taker {
     kept: Vec<u8>,
     /// How many octets it takes at a call at most.
     piece: usize,
