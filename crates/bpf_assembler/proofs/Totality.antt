@@ -183,7 +183,7 @@ line_up_to (e ∷ es) slot = by (line_up_to es slot) (fits_below e.place slot)
         order = ap (λ (xs : List Entry). e ∷ xs) h.order;
         counted = h.counted;
         reached = h.reached;
-        behind = h.behind;
+        later = h.later;
       }),
     )
     by (n, inl h) (inl lt) = (n, inl (h.0, first_and_rest (λ x. slot < x.place) e es lt h.1))
@@ -196,7 +196,7 @@ line_up_to (e ∷ es) slot = by (line_up_to es slot) (fits_below e.place slot)
         order = refl;
         counted = refl;
         reached = omega (arith, ge);
-        behind = h.1;
+        later = h.1;
       }),
     )
 

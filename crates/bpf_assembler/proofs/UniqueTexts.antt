@@ -215,7 +215,7 @@ one_entry slot (x ∷ a) (y ∷ b) after rest e f is h k p q = one_entry slot a 
 
 one_line_of_slot : (es : List Entry) (slot m n : ℕ) → IsLineOfSlot es slot m → IsLineOfSlot es slot n → m ≡ n
 one_line_of_slot es slot m n h k =
-    h.counted ∙ ap (λ (e : Entry). e.number) (one_entry slot h.before k.before h.after k.after h.entry k.entry (sym h.order ∙ k.order) h.reached k.reached h.behind k.behind) ∙ sym k.counted
+    h.counted ∙ ap (λ (e : Entry). e.number) (one_entry slot h.before k.before h.after k.after h.entry k.entry (sym h.order ∙ k.order) h.reached k.reached h.later k.later) ∙ sym k.counted
 
 one_line_of : (f : LoadFault) (es : List Entry) (m n : ℕ) → IsLineOf f es m → IsLineOf f es n → m ≡ n
 one_line_of load.EmptyCode es m n h k = h ∙ sym k

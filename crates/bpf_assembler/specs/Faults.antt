@@ -75,7 +75,7 @@ pub record IsLineOfSlot (entries : List Entry) (slot number : ℕ) : Type 0 wher
   pub order : entries ≡ before ++ entry ∷ after
   pub counted : number ≡ entry.number
   pub reached : entry.place ≤ slot
-  pub behind : All (λ e. slot < e.place) after
+  pub later : All (λ e. slot < e.place) after
 
 -- the line of the instruction at the fault's slot; a fault of the image's length has line 0, and so
 -- has Memory, which is none of an image

@@ -23,7 +23,7 @@ use Rattle.bpf_canonical.specs.Mnemonics.{mnemonic_name, mnemonic_of}
 use Rattle.bpf_text.specs.Number.{IsNumeral}
 use Rattle.bpf_text.specs.Fields.{IsRegister, IsImmediate, IsSecond, IsTarget}
 use Rattle.bpf_text.specs.Mirror.Gives.{bits_in, IsWidth, HasExtension, HasSwapWidth}
-use Rattle.bpf_text.specs.Grammar.{Form, Token, Behind, Then, ◌⸴◌, Memory}
+use Rattle.bpf_text.specs.Grammar.{Form, Token, After, Then, ◌⸴◌, Memory}
 use Rattle.bpf_text.specs.Mirror.Reads.{State, Reads, Answers, verdict}
 use Rattle.bpf_text.specs.Lines.{Statement, IsOperands, Fits}
 use Rattle.bpf_text.specs.Judged.{Gives, Judges, JudgesForm, as_statement, target_of}
@@ -31,7 +31,7 @@ use Rattle.bpf_text.specs.declared.line.Statement.{Statement as LentStatement}
 use Rattle.bpf_text.specs.declared.line.LineFault.{LineFault}
 use Rattle.bpf_text.specs.declared.line.LineFault.TheVariants.{Syntax, Range}
 use Rattle.bpf_text.proofs.FieldLemmas.{register_in_range, letter_no_numeral, extension_class}
-use Rattle.bpf_text.proofs.ReadLemmas.{statement, behind_next, gives_of}
+use Rattle.bpf_text.proofs.ReadLemmas.{statement, after_next, gives_of}
 
 -- What was read is an instruction of the mnemonic; an instruction of it is written so; and one
 -- that is out of its range is an instruction of it out of its range.
@@ -48,7 +48,7 @@ judged f (Some v) ([], false) h = let o = f.ok v h.0 h.1 in ((o.0, o.1), (o.2, r
 
 -- two registers and a number
 abbrev Extended : Form (ℕ × (ℕ × Option ℕ))
-Extended = Then (Token IsRegister) (Behind (44 ∷ []) (Then (Token IsRegister) (Behind (44 ∷ []) (Token IsWidth))))
+Extended = Then (Token IsRegister) (After (44 ∷ []) (Then (Token IsRegister) (After (44 ∷ []) (Token IsWidth))))
 
 -- the operands of a mnemonic, whatever their values are; those of the call are told apart below
 abbrev AreOf : Mnemonic → List (List ℕ) → Type 0
@@ -91,10 +91,10 @@ back_of m tokens l name odd is k = subst (λ (x : Mnemonic). AreOf x tokens) is 
 abbrev pub plain : Line → LentStatement
 plain l = record { line = l; name = None }
 
-pub arithmetic : (w : Width) (o : Operation) (s : State) (r : Option (ℕ × Operand)) (u : State) → Reads (λ (v : ℕ × Operand). (v.0, v.1)) (Then (Token IsRegister) (Behind (44 ∷ []) (Token IsSecond))) (λ (v : ℕ × Operand). IsReg v.0 × IsOperand v.1) s r u → Answers (word.Classed (stem.Arithmetic o) w) s (option_map (λ (v : ℕ × Operand). plain (line.Arithmetic w o v.0 v.1)) r) u
-arithmetic w o s r u h start = judged fits r u (gives_of (λ (v : ℕ × Operand). (v.0, v.1)) (Then (Token IsRegister) (Behind (44 ∷ []) (Token IsSecond))) (λ (v : ℕ × Operand). IsReg v.0 × IsOperand v.1) s r u start h)
+pub arithmetic : (w : Width) (o : Operation) (s : State) (r : Option (ℕ × Operand)) (u : State) → Reads (λ (v : ℕ × Operand). (v.0, v.1)) (Then (Token IsRegister) (After (44 ∷ []) (Token IsSecond))) (λ (v : ℕ × Operand). IsReg v.0 × IsOperand v.1) s r u → Answers (word.Classed (stem.Arithmetic o) w) s (option_map (λ (v : ℕ × Operand). plain (line.Arithmetic w o v.0 v.1)) r) u
+arithmetic w o s r u h start = judged fits r u (gives_of (λ (v : ℕ × Operand). (v.0, v.1)) (Then (Token IsRegister) (After (44 ∷ []) (Token IsSecond))) (λ (v : ℕ × Operand). IsReg v.0 × IsOperand v.1) s r u start h)
   where
-    fits : Fitting (word.Classed (stem.Arithmetic o) w) s.0 (λ (v : ℕ × Operand). plain (line.Arithmetic w o v.0 v.1)) (λ (v : ℕ × Operand). (v.0, v.1)) (Then (Token IsRegister) (Behind (44 ∷ []) (Token IsSecond))) (λ (v : ℕ × Operand). IsReg v.0 × IsOperand v.1)
+    fits : Fitting (word.Classed (stem.Arithmetic o) w) s.0 (λ (v : ℕ × Operand). plain (line.Arithmetic w o v.0 v.1)) (λ (v : ℕ × Operand). (v.0, v.1)) (Then (Token IsRegister) (After (44 ∷ []) (Token IsSecond))) (λ (v : ℕ × Operand). IsReg v.0 × IsOperand v.1)
     fits = record { ok = λ v p f. (refl, (refl, refl, p), f); back = back_of (word.Classed (stem.Arithmetic o) w) s.0; out = λ v p bad. (statement (line.Arithmetic w o v.0 v.1) None None, refl, (refl, refl, p), λ m. bad m.0) }
 
 pub negate : (w : Width) (s : State) (r : Option (ℕ)) (u : State) → Reads (λ (v : ℕ). v) (Token IsRegister) IsReg s r u → Answers (word.Classed stem.Negate w) s (option_map (λ (v : ℕ). plain (line.Negate w v)) r) u
@@ -103,10 +103,10 @@ negate w s r u h start = judged fits r u (gives_of (λ (v : ℕ). v) (Token IsRe
     fits : Fitting (word.Classed stem.Negate w) s.0 (λ (v : ℕ). plain (line.Negate w v)) (λ (v : ℕ). v) (Token IsRegister) IsReg
     fits = record { ok = λ v p f. (refl, (refl, refl, p), f); back = back_of (word.Classed stem.Negate w) s.0; out = λ v p bad. (statement (line.Negate w v) None None, refl, (refl, refl, p), λ m. bad m.0) }
 
-pub load_wide : (s : State) (r : Option (ℕ × ℕ)) (u : State) → Reads (λ (v : ℕ × ℕ). (v.0, v.1)) (Then (Token IsRegister) (Behind (44 ∷ []) (Token IsNumeral))) (λ (v : ℕ × ℕ). IsReg v.0 × (v.1 < 2 ^ 64)) s r u → Answers (word.LoadWide) s (option_map (λ (v : ℕ × ℕ). plain (line.LoadWide v.0 v.1)) r) u
-load_wide s r u h start = judged fits r u (gives_of (λ (v : ℕ × ℕ). (v.0, v.1)) (Then (Token IsRegister) (Behind (44 ∷ []) (Token IsNumeral))) (λ (v : ℕ × ℕ). IsReg v.0 × (v.1 < 2 ^ 64)) s r u start h)
+pub load_wide : (s : State) (r : Option (ℕ × ℕ)) (u : State) → Reads (λ (v : ℕ × ℕ). (v.0, v.1)) (Then (Token IsRegister) (After (44 ∷ []) (Token IsNumeral))) (λ (v : ℕ × ℕ). IsReg v.0 × (v.1 < 2 ^ 64)) s r u → Answers (word.LoadWide) s (option_map (λ (v : ℕ × ℕ). plain (line.LoadWide v.0 v.1)) r) u
+load_wide s r u h start = judged fits r u (gives_of (λ (v : ℕ × ℕ). (v.0, v.1)) (Then (Token IsRegister) (After (44 ∷ []) (Token IsNumeral))) (λ (v : ℕ × ℕ). IsReg v.0 × (v.1 < 2 ^ 64)) s r u start h)
   where
-    fits : Fitting (word.LoadWide) s.0 (λ (v : ℕ × ℕ). plain (line.LoadWide v.0 v.1)) (λ (v : ℕ × ℕ). (v.0, v.1)) (Then (Token IsRegister) (Behind (44 ∷ []) (Token IsNumeral))) (λ (v : ℕ × ℕ). IsReg v.0 × (v.1 < 2 ^ 64))
+    fits : Fitting (word.LoadWide) s.0 (λ (v : ℕ × ℕ). plain (line.LoadWide v.0 v.1)) (λ (v : ℕ × ℕ). (v.0, v.1)) (Then (Token IsRegister) (After (44 ∷ []) (Token IsNumeral))) (λ (v : ℕ × ℕ). IsReg v.0 × (v.1 < 2 ^ 64))
     fits = record { ok = λ v p f. (refl, (refl, refl, p), f); back = back_of word.LoadWide s.0; out = λ w p bad. (statement (line.LoadWide w.0 w.1) None None, refl, (refl, refl, p), λ m. bad m.0) }
 
 pub jump : (s : State) (r : Option (ℤ × Option (Bor (List ℕ)))) (u : State) → Reads target_of (Token IsTarget) (λ (v : ℤ × Option (List ℕ)). FitsSigned w16 v.0) s r u → Answers word.Jump s (option_map (λ (v : ℤ × Option (Bor (List ℕ))). record { line = line.Jump v.0; name = v.1 }) r) u
@@ -121,34 +121,34 @@ long_jump s r u h start = judged fits r u (gives_of target_of (Token IsTarget) (
     fits : Fitting word.LongJump s.0 (λ (v : ℤ × Option (Bor (List ℕ))). record { line = line.LongJump v.0; name = v.1 }) target_of (Token IsTarget) (λ (v : ℤ × Option (List ℕ)). FitsSigned w32 v.0)
     fits = record { ok = λ v p f. (refl, (refl, p), f); back = back_of word.LongJump s.0; out = λ w p bad. (statement (line.LongJump w.0) (w.1) None, refl, (refl, p), λ m. bad m.0) }
 
-pub jump_if : (w : Width) (t : Comparison) (s : State) (r : Option (ℕ × (Operand × (ℤ × Option (Bor (List ℕ)))))) (u : State) → Reads (λ (v : ℕ × (Operand × (ℤ × Option (Bor (List ℕ))))). (v.0, (v.1.0, target_of v.1.1))) (Then (Token IsRegister) (Behind (44 ∷ []) (Then (Token IsSecond) (Behind (44 ∷ []) (Token IsTarget))))) (λ (v : ℕ × (Operand × (ℤ × Option (List ℕ)))). IsReg v.0 × (IsOperand v.1.0 × FitsSigned w16 v.1.1.0)) s r u → Answers (word.Classed (stem.JumpIf t) w) s (option_map (λ (v : ℕ × (Operand × (ℤ × Option (Bor (List ℕ))))). record { line = line.JumpIf w t v.0 v.1.0 v.1.1.0; name = v.1.1.1 }) r) u
-jump_if w t s r u h start = judged fits r u (gives_of (λ (v : ℕ × (Operand × (ℤ × Option (Bor (List ℕ))))). (v.0, (v.1.0, target_of v.1.1))) (Then (Token IsRegister) (Behind (44 ∷ []) (Then (Token IsSecond) (Behind (44 ∷ []) (Token IsTarget))))) (λ (v : ℕ × (Operand × (ℤ × Option (List ℕ)))). IsReg v.0 × (IsOperand v.1.0 × FitsSigned w16 v.1.1.0)) s r u start h)
+pub jump_if : (w : Width) (t : Comparison) (s : State) (r : Option (ℕ × (Operand × (ℤ × Option (Bor (List ℕ)))))) (u : State) → Reads (λ (v : ℕ × (Operand × (ℤ × Option (Bor (List ℕ))))). (v.0, (v.1.0, target_of v.1.1))) (Then (Token IsRegister) (After (44 ∷ []) (Then (Token IsSecond) (After (44 ∷ []) (Token IsTarget))))) (λ (v : ℕ × (Operand × (ℤ × Option (List ℕ)))). IsReg v.0 × (IsOperand v.1.0 × FitsSigned w16 v.1.1.0)) s r u → Answers (word.Classed (stem.JumpIf t) w) s (option_map (λ (v : ℕ × (Operand × (ℤ × Option (Bor (List ℕ))))). record { line = line.JumpIf w t v.0 v.1.0 v.1.1.0; name = v.1.1.1 }) r) u
+jump_if w t s r u h start = judged fits r u (gives_of (λ (v : ℕ × (Operand × (ℤ × Option (Bor (List ℕ))))). (v.0, (v.1.0, target_of v.1.1))) (Then (Token IsRegister) (After (44 ∷ []) (Then (Token IsSecond) (After (44 ∷ []) (Token IsTarget))))) (λ (v : ℕ × (Operand × (ℤ × Option (List ℕ)))). IsReg v.0 × (IsOperand v.1.0 × FitsSigned w16 v.1.1.0)) s r u start h)
   where
-    fits : Fitting (word.Classed (stem.JumpIf t) w) s.0 (λ (v : ℕ × (Operand × (ℤ × Option (Bor (List ℕ))))). record { line = line.JumpIf w t v.0 v.1.0 v.1.1.0; name = v.1.1.1 }) (λ (v : ℕ × (Operand × (ℤ × Option (Bor (List ℕ))))). (v.0, (v.1.0, target_of v.1.1))) (Then (Token IsRegister) (Behind (44 ∷ []) (Then (Token IsSecond) (Behind (44 ∷ []) (Token IsTarget))))) (λ (v : ℕ × (Operand × (ℤ × Option (List ℕ)))). IsReg v.0 × (IsOperand v.1.0 × FitsSigned w16 v.1.1.0))
+    fits : Fitting (word.Classed (stem.JumpIf t) w) s.0 (λ (v : ℕ × (Operand × (ℤ × Option (Bor (List ℕ))))). record { line = line.JumpIf w t v.0 v.1.0 v.1.1.0; name = v.1.1.1 }) (λ (v : ℕ × (Operand × (ℤ × Option (Bor (List ℕ))))). (v.0, (v.1.0, target_of v.1.1))) (Then (Token IsRegister) (After (44 ∷ []) (Then (Token IsSecond) (After (44 ∷ []) (Token IsTarget))))) (λ (v : ℕ × (Operand × (ℤ × Option (List ℕ)))). IsReg v.0 × (IsOperand v.1.0 × FitsSigned w16 v.1.1.0))
     fits = record { ok = λ v p f. (refl, (refl, p), (f.0, f.1.0, f.1.1)); back = back_of (word.Classed (stem.JumpIf t) w) s.0; out = λ v p bad. (statement (line.JumpIf w t v.0 v.1.0 v.1.1.0) (v.1.1.1) None, refl, (refl, p), λ m. bad (m.0.0, (m.0.1, m.0.2))) }
 
-pub load : (z : Size) (s : State) (r : Option (ℕ × (ℕ × ℤ))) (u : State) → Reads (λ (v : ℕ × (ℕ × ℤ)). (v.0, v.1)) (Then (Token IsRegister) (Behind (44 ∷ []) (Memory))) (λ (v : ℕ × (ℕ × ℤ)). IsReg v.0 × (IsReg v.1.0 × FitsSigned w16 v.1.1)) s r u → Answers (word.Load z) s (option_map (λ (v : ℕ × (ℕ × ℤ)). plain (line.Load z v.0 v.1.0 v.1.1)) r) u
-load z s r u h start = judged fits r u (gives_of (λ (v : ℕ × (ℕ × ℤ)). (v.0, v.1)) (Then (Token IsRegister) (Behind (44 ∷ []) (Memory))) (λ (v : ℕ × (ℕ × ℤ)). IsReg v.0 × (IsReg v.1.0 × FitsSigned w16 v.1.1)) s r u start h)
+pub load : (z : Size) (s : State) (r : Option (ℕ × (ℕ × ℤ))) (u : State) → Reads (λ (v : ℕ × (ℕ × ℤ)). (v.0, v.1)) (Then (Token IsRegister) (After (44 ∷ []) (Memory))) (λ (v : ℕ × (ℕ × ℤ)). IsReg v.0 × (IsReg v.1.0 × FitsSigned w16 v.1.1)) s r u → Answers (word.Load z) s (option_map (λ (v : ℕ × (ℕ × ℤ)). plain (line.Load z v.0 v.1.0 v.1.1)) r) u
+load z s r u h start = judged fits r u (gives_of (λ (v : ℕ × (ℕ × ℤ)). (v.0, v.1)) (Then (Token IsRegister) (After (44 ∷ []) (Memory))) (λ (v : ℕ × (ℕ × ℤ)). IsReg v.0 × (IsReg v.1.0 × FitsSigned w16 v.1.1)) s r u start h)
   where
-    fits : Fitting (word.Load z) s.0 (λ (v : ℕ × (ℕ × ℤ)). plain (line.Load z v.0 v.1.0 v.1.1)) (λ (v : ℕ × (ℕ × ℤ)). (v.0, v.1)) (Then (Token IsRegister) (Behind (44 ∷ []) (Memory))) (λ (v : ℕ × (ℕ × ℤ)). IsReg v.0 × (IsReg v.1.0 × FitsSigned w16 v.1.1))
+    fits : Fitting (word.Load z) s.0 (λ (v : ℕ × (ℕ × ℤ)). plain (line.Load z v.0 v.1.0 v.1.1)) (λ (v : ℕ × (ℕ × ℤ)). (v.0, v.1)) (Then (Token IsRegister) (After (44 ∷ []) (Memory))) (λ (v : ℕ × (ℕ × ℤ)). IsReg v.0 × (IsReg v.1.0 × FitsSigned w16 v.1.1))
     fits = record { ok = λ v p f. (refl, (refl, refl, p), (f.0, f.1.0, f.1.1)); back = back_of (word.Load z) s.0; out = λ w p bad. (statement (line.Load z w.0 w.1.0 w.1.1) None None, refl, (refl, refl, p), λ m. bad (m.0.0, (m.0.1, m.0.2))) }
 
-pub load_extended : (z : SignedSize) (s : State) (r : Option (ℕ × (ℕ × ℤ))) (u : State) → Reads (λ (v : ℕ × (ℕ × ℤ)). (v.0, v.1)) (Then (Token IsRegister) (Behind (44 ∷ []) (Memory))) (λ (v : ℕ × (ℕ × ℤ)). IsReg v.0 × (IsReg v.1.0 × FitsSigned w16 v.1.1)) s r u → Answers (word.LoadExtended z) s (option_map (λ (v : ℕ × (ℕ × ℤ)). plain (line.LoadExtended z v.0 v.1.0 v.1.1)) r) u
-load_extended z s r u h start = judged fits r u (gives_of (λ (v : ℕ × (ℕ × ℤ)). (v.0, v.1)) (Then (Token IsRegister) (Behind (44 ∷ []) (Memory))) (λ (v : ℕ × (ℕ × ℤ)). IsReg v.0 × (IsReg v.1.0 × FitsSigned w16 v.1.1)) s r u start h)
+pub load_extended : (z : SignedSize) (s : State) (r : Option (ℕ × (ℕ × ℤ))) (u : State) → Reads (λ (v : ℕ × (ℕ × ℤ)). (v.0, v.1)) (Then (Token IsRegister) (After (44 ∷ []) (Memory))) (λ (v : ℕ × (ℕ × ℤ)). IsReg v.0 × (IsReg v.1.0 × FitsSigned w16 v.1.1)) s r u → Answers (word.LoadExtended z) s (option_map (λ (v : ℕ × (ℕ × ℤ)). plain (line.LoadExtended z v.0 v.1.0 v.1.1)) r) u
+load_extended z s r u h start = judged fits r u (gives_of (λ (v : ℕ × (ℕ × ℤ)). (v.0, v.1)) (Then (Token IsRegister) (After (44 ∷ []) (Memory))) (λ (v : ℕ × (ℕ × ℤ)). IsReg v.0 × (IsReg v.1.0 × FitsSigned w16 v.1.1)) s r u start h)
   where
-    fits : Fitting (word.LoadExtended z) s.0 (λ (v : ℕ × (ℕ × ℤ)). plain (line.LoadExtended z v.0 v.1.0 v.1.1)) (λ (v : ℕ × (ℕ × ℤ)). (v.0, v.1)) (Then (Token IsRegister) (Behind (44 ∷ []) (Memory))) (λ (v : ℕ × (ℕ × ℤ)). IsReg v.0 × (IsReg v.1.0 × FitsSigned w16 v.1.1))
+    fits : Fitting (word.LoadExtended z) s.0 (λ (v : ℕ × (ℕ × ℤ)). plain (line.LoadExtended z v.0 v.1.0 v.1.1)) (λ (v : ℕ × (ℕ × ℤ)). (v.0, v.1)) (Then (Token IsRegister) (After (44 ∷ []) (Memory))) (λ (v : ℕ × (ℕ × ℤ)). IsReg v.0 × (IsReg v.1.0 × FitsSigned w16 v.1.1))
     fits = record { ok = λ v p f. (refl, (refl, refl, p), (f.0, f.1.0, f.1.1)); back = back_of (word.LoadExtended z) s.0; out = λ w p bad. (statement (line.LoadExtended z w.0 w.1.0 w.1.1) None None, refl, (refl, refl, p), λ m. bad (m.0.0, (m.0.1, m.0.2))) }
 
-pub store : (z : Size) (s : State) (r : Option ((ℕ × ℤ) × ℕ)) (u : State) → Reads (λ (v : (ℕ × ℤ) × ℕ). (v.0, v.1)) (Then (Memory) (Behind (44 ∷ []) (Token IsRegister))) (λ (v : (ℕ × ℤ) × ℕ). (IsReg v.0.0 × FitsSigned w16 v.0.1) × IsReg v.1) s r u → Answers (word.Store z) s (option_map (λ (v : (ℕ × ℤ) × ℕ). plain (line.Store z v.0.0 v.0.1 v.1)) r) u
-store z s r u h start = judged fits r u (gives_of (λ (v : (ℕ × ℤ) × ℕ). (v.0, v.1)) (Then (Memory) (Behind (44 ∷ []) (Token IsRegister))) (λ (v : (ℕ × ℤ) × ℕ). (IsReg v.0.0 × FitsSigned w16 v.0.1) × IsReg v.1) s r u start h)
+pub store : (z : Size) (s : State) (r : Option ((ℕ × ℤ) × ℕ)) (u : State) → Reads (λ (v : (ℕ × ℤ) × ℕ). (v.0, v.1)) (Then (Memory) (After (44 ∷ []) (Token IsRegister))) (λ (v : (ℕ × ℤ) × ℕ). (IsReg v.0.0 × FitsSigned w16 v.0.1) × IsReg v.1) s r u → Answers (word.Store z) s (option_map (λ (v : (ℕ × ℤ) × ℕ). plain (line.Store z v.0.0 v.0.1 v.1)) r) u
+store z s r u h start = judged fits r u (gives_of (λ (v : (ℕ × ℤ) × ℕ). (v.0, v.1)) (Then (Memory) (After (44 ∷ []) (Token IsRegister))) (λ (v : (ℕ × ℤ) × ℕ). (IsReg v.0.0 × FitsSigned w16 v.0.1) × IsReg v.1) s r u start h)
   where
-    fits : Fitting (word.Store z) s.0 (λ (v : (ℕ × ℤ) × ℕ). plain (line.Store z v.0.0 v.0.1 v.1)) (λ (v : (ℕ × ℤ) × ℕ). (v.0, v.1)) (Then (Memory) (Behind (44 ∷ []) (Token IsRegister))) (λ (v : (ℕ × ℤ) × ℕ). (IsReg v.0.0 × FitsSigned w16 v.0.1) × IsReg v.1)
+    fits : Fitting (word.Store z) s.0 (λ (v : (ℕ × ℤ) × ℕ). plain (line.Store z v.0.0 v.0.1 v.1)) (λ (v : (ℕ × ℤ) × ℕ). (v.0, v.1)) (Then (Memory) (After (44 ∷ []) (Token IsRegister))) (λ (v : (ℕ × ℤ) × ℕ). (IsReg v.0.0 × FitsSigned w16 v.0.1) × IsReg v.1)
     fits = record { ok = λ v p f. (refl, (refl, refl, p), (f.0.0, f.0.1, f.1)); back = back_of (word.Store z) s.0; out = λ w p bad. (statement (line.Store z w.0.0 w.0.1 w.1) None None, refl, (refl, refl, p), λ m. bad ((m.0.0, m.0.1), m.0.2)) }
 
-pub store_immediate : (z : Size) (s : State) (r : Option ((ℕ × ℤ) × ℤ)) (u : State) → Reads (λ (v : (ℕ × ℤ) × ℤ). (v.0, v.1)) (Then (Memory) (Behind (44 ∷ []) (Token IsImmediate))) (λ (v : (ℕ × ℤ) × ℤ). (IsReg v.0.0 × FitsSigned w16 v.0.1) × FitsSigned w32 v.1) s r u → Answers (word.StoreImmediate z) s (option_map (λ (v : (ℕ × ℤ) × ℤ). plain (line.StoreImmediate z v.0.0 v.0.1 v.1)) r) u
-store_immediate z s r u h start = judged fits r u (gives_of (λ (v : (ℕ × ℤ) × ℤ). (v.0, v.1)) (Then (Memory) (Behind (44 ∷ []) (Token IsImmediate))) (λ (v : (ℕ × ℤ) × ℤ). (IsReg v.0.0 × FitsSigned w16 v.0.1) × FitsSigned w32 v.1) s r u start h)
+pub store_immediate : (z : Size) (s : State) (r : Option ((ℕ × ℤ) × ℤ)) (u : State) → Reads (λ (v : (ℕ × ℤ) × ℤ). (v.0, v.1)) (Then (Memory) (After (44 ∷ []) (Token IsImmediate))) (λ (v : (ℕ × ℤ) × ℤ). (IsReg v.0.0 × FitsSigned w16 v.0.1) × FitsSigned w32 v.1) s r u → Answers (word.StoreImmediate z) s (option_map (λ (v : (ℕ × ℤ) × ℤ). plain (line.StoreImmediate z v.0.0 v.0.1 v.1)) r) u
+store_immediate z s r u h start = judged fits r u (gives_of (λ (v : (ℕ × ℤ) × ℤ). (v.0, v.1)) (Then (Memory) (After (44 ∷ []) (Token IsImmediate))) (λ (v : (ℕ × ℤ) × ℤ). (IsReg v.0.0 × FitsSigned w16 v.0.1) × FitsSigned w32 v.1) s r u start h)
   where
-    fits : Fitting (word.StoreImmediate z) s.0 (λ (v : (ℕ × ℤ) × ℤ). plain (line.StoreImmediate z v.0.0 v.0.1 v.1)) (λ (v : (ℕ × ℤ) × ℤ). (v.0, v.1)) (Then (Memory) (Behind (44 ∷ []) (Token IsImmediate))) (λ (v : (ℕ × ℤ) × ℤ). (IsReg v.0.0 × FitsSigned w16 v.0.1) × FitsSigned w32 v.1)
+    fits : Fitting (word.StoreImmediate z) s.0 (λ (v : (ℕ × ℤ) × ℤ). plain (line.StoreImmediate z v.0.0 v.0.1 v.1)) (λ (v : (ℕ × ℤ) × ℤ). (v.0, v.1)) (Then (Memory) (After (44 ∷ []) (Token IsImmediate))) (λ (v : (ℕ × ℤ) × ℤ). (IsReg v.0.0 × FitsSigned w16 v.0.1) × FitsSigned w32 v.1)
     fits = record { ok = λ v p f. (refl, (refl, refl, p), (f.0.0, f.0.1, f.1)); back = back_of (word.StoreImmediate z) s.0; out = λ w p bad. (statement (line.StoreImmediate z w.0.0 w.0.1 w.1) None None, refl, (refl, refl, p), λ m. bad ((m.0.0, m.0.1), m.0.2)) }
 
 -- an extension and a byte order instruction have one of the widths that there are, or another one
@@ -161,16 +161,16 @@ extended_ok : (w : Width) (tokens : List (List ℕ)) (e : Extension) (dst src : 
     → (mnemonic_of (line.MoveExtended e dst src) ≡ word.Classed stem.MoveExtended w) × IsOperands (statement (line.MoveExtended e dst src) None None) tokens × IsLine (line.MoveExtended e dst src)
 extended_ok w tokens e dst src p f = let k = extension_class w e f.1.1 in let q = subst (λ (o : Option ℕ). Extended tokens (dst, (src, o)) []) k.1 p in (ap (word.Classed stem.MoveExtended) k.0, (refl, extension_bits e, refl, q), (f.0, f.1.0))
 
-pub move_extended : (w : Width) (s : State) (r : Option (ℕ × (ℕ × Extension))) (u : State) → Reads (λ (v : ℕ × (ℕ × Extension)). (v.0, (v.1.0, bits_in w v.1.1))) (Then (Token IsRegister) (Behind (44 ∷ []) (Then (Token IsRegister) (Behind (44 ∷ []) (Token IsWidth))))) (λ (v : ℕ × (ℕ × Option ℕ)). IsReg v.0 × (IsReg v.1.0 × HasExtension w v.1.1)) s r u → Answers (word.Classed stem.MoveExtended w) s (option_map (λ (v : ℕ × (ℕ × Extension)). plain (line.MoveExtended v.1.1 v.0 v.1.0)) r) u
-move_extended w s r u h start = judged fits r u (gives_of (λ (v : ℕ × (ℕ × Extension)). (v.0, (v.1.0, bits_in w v.1.1))) (Then (Token IsRegister) (Behind (44 ∷ []) (Then (Token IsRegister) (Behind (44 ∷ []) (Token IsWidth))))) (λ (v : ℕ × (ℕ × Option ℕ)). IsReg v.0 × (IsReg v.1.0 × HasExtension w v.1.1)) s r u start h)
+pub move_extended : (w : Width) (s : State) (r : Option (ℕ × (ℕ × Extension))) (u : State) → Reads (λ (v : ℕ × (ℕ × Extension)). (v.0, (v.1.0, bits_in w v.1.1))) (Then (Token IsRegister) (After (44 ∷ []) (Then (Token IsRegister) (After (44 ∷ []) (Token IsWidth))))) (λ (v : ℕ × (ℕ × Option ℕ)). IsReg v.0 × (IsReg v.1.0 × HasExtension w v.1.1)) s r u → Answers (word.Classed stem.MoveExtended w) s (option_map (λ (v : ℕ × (ℕ × Extension)). plain (line.MoveExtended v.1.1 v.0 v.1.0)) r) u
+move_extended w s r u h start = judged fits r u (gives_of (λ (v : ℕ × (ℕ × Extension)). (v.0, (v.1.0, bits_in w v.1.1))) (Then (Token IsRegister) (After (44 ∷ []) (Then (Token IsRegister) (After (44 ∷ []) (Token IsWidth))))) (λ (v : ℕ × (ℕ × Option ℕ)). IsReg v.0 × (IsReg v.1.0 × HasExtension w v.1.1)) s r u start h)
   where
-    fits : Fitting (word.Classed stem.MoveExtended w) s.0 (λ (v : ℕ × (ℕ × Extension)). plain (line.MoveExtended v.1.1 v.0 v.1.0)) (λ (v : ℕ × (ℕ × Extension)). (v.0, (v.1.0, bits_in w v.1.1))) (Then (Token IsRegister) (Behind (44 ∷ []) (Then (Token IsRegister) (Behind (44 ∷ []) (Token IsWidth))))) (λ (v : ℕ × (ℕ × Option ℕ)). IsReg v.0 × (IsReg v.1.0 × HasExtension w v.1.1))
+    fits : Fitting (word.Classed stem.MoveExtended w) s.0 (λ (v : ℕ × (ℕ × Extension)). plain (line.MoveExtended v.1.1 v.0 v.1.0)) (λ (v : ℕ × (ℕ × Extension)). (v.0, (v.1.0, bits_in w v.1.1))) (Then (Token IsRegister) (After (44 ∷ []) (Then (Token IsRegister) (After (44 ∷ []) (Token IsWidth))))) (λ (v : ℕ × (ℕ × Option ℕ)). IsReg v.0 × (IsReg v.1.0 × HasExtension w v.1.1))
     fits = record { ok = λ v p f. extended_ok w s.0 v.1.1 v.0 v.1.0 p f; back = back_of (word.Classed stem.MoveExtended w) s.0; out = λ v p bad. odd_extended w s.0 v.0 v.1.0 v.1.1 p (λ m. bad (register_in_range p.1.0 v.0 p.1.2, (register_in_range p.2.2.1.0 v.1.0 p.2.2.1.2, m))) }
 
-pub byte_order : (o : Order) (s : State) (r : Option (ℕ × SwapWidth)) (u : State) → Reads (λ (v : ℕ × SwapWidth). (v.0, swap_width_bits v.1)) (Then (Token IsRegister) (Behind (44 ∷ []) (Token IsNumeral))) (λ (v : ℕ × ℕ). IsReg v.0 × HasSwapWidth v.1) s r u → Answers (word.ByteOrder o) s (option_map (λ (v : ℕ × SwapWidth). plain (line.ByteOrder o v.1 v.0)) r) u
-byte_order o s r u h start = judged fits r u (gives_of (λ (v : ℕ × SwapWidth). (v.0, swap_width_bits v.1)) (Then (Token IsRegister) (Behind (44 ∷ []) (Token IsNumeral))) (λ (v : ℕ × ℕ). IsReg v.0 × HasSwapWidth v.1) s r u start h)
+pub byte_order : (o : Order) (s : State) (r : Option (ℕ × SwapWidth)) (u : State) → Reads (λ (v : ℕ × SwapWidth). (v.0, swap_width_bits v.1)) (Then (Token IsRegister) (After (44 ∷ []) (Token IsNumeral))) (λ (v : ℕ × ℕ). IsReg v.0 × HasSwapWidth v.1) s r u → Answers (word.ByteOrder o) s (option_map (λ (v : ℕ × SwapWidth). plain (line.ByteOrder o v.1 v.0)) r) u
+byte_order o s r u h start = judged fits r u (gives_of (λ (v : ℕ × SwapWidth). (v.0, swap_width_bits v.1)) (Then (Token IsRegister) (After (44 ∷ []) (Token IsNumeral))) (λ (v : ℕ × ℕ). IsReg v.0 × HasSwapWidth v.1) s r u start h)
   where
-    fits : Fitting (word.ByteOrder o) s.0 (λ (v : ℕ × SwapWidth). plain (line.ByteOrder o v.1 v.0)) (λ (v : ℕ × SwapWidth). (v.0, swap_width_bits v.1)) (Then (Token IsRegister) (Behind (44 ∷ []) (Token IsNumeral))) (λ (v : ℕ × ℕ). IsReg v.0 × HasSwapWidth v.1)
+    fits : Fitting (word.ByteOrder o) s.0 (λ (v : ℕ × SwapWidth). plain (line.ByteOrder o v.1 v.0)) (λ (v : ℕ × SwapWidth). (v.0, swap_width_bits v.1)) (Then (Token IsRegister) (After (44 ∷ []) (Token IsNumeral))) (λ (v : ℕ × ℕ). IsReg v.0 × HasSwapWidth v.1)
     fits = record { ok = λ v p f. (refl, (refl, swap_width_bits v.1, refl, p), f.0); back = back_of (word.ByteOrder o) s.0; out = λ w p bad. (statement (line.ByteOrder o swap.Bits16 w.0) None (Some w.1), refl, (refl, w.1, (refl, λ y same. bad (register_in_range p.1.0 w.0 p.1.2, (y, same))), p), λ m. let e = m.1 in absurd cc) }
 
 -- the word local is no number
@@ -180,11 +180,11 @@ no_local t z e (y, inr h, is) = let q = h.2 in absurd (omega (arith, ap (λ (u :
 
 -- a target after the word local
 abbrev Local : Form (ℤ × Option (List ℕ))
-Local = Behind (108 ∷ 111 ∷ 99 ∷ 97 ∷ 108 ∷ []) (Token IsTarget)
+Local = After (108 ∷ 111 ∷ 99 ∷ 97 ∷ 108 ∷ []) (Token IsTarget)
 
 pub call_local : (s t : State) (r : Option (ℤ × Option (Bor (List ℕ)))) (u : State) → (s.0 ≡ (108 ∷ 111 ∷ 99 ∷ 97 ∷ 108 ∷ []) ∷ t.0) × (t.1 ≡ s.1) → Reads target_of (Token IsTarget) (λ (v : ℤ × Option (List ℕ)). FitsSigned w32 v.0) t r u
     → Answers word.Call s (option_map (λ (v : ℤ × Option (Bor (List ℕ))). record { line = line.CallLocal v.0; name = v.1 }) r) u
-call_local s t r u e h start = judged fits r u (gives_of target_of Local (λ (v : ℤ × Option (List ℕ)). FitsSigned w32 v.0) s r u start (behind_next (108 ∷ 111 ∷ 99 ∷ 97 ∷ 108 ∷ []) s t e target_of (Token IsTarget) (λ (v : ℤ × Option (List ℕ)). FitsSigned w32 v.0) r u h))
+call_local s t r u e h start = judged fits r u (gives_of target_of Local (λ (v : ℤ × Option (List ℕ)). FitsSigned w32 v.0) s r u start (after_next (108 ∷ 111 ∷ 99 ∷ 97 ∷ 108 ∷ []) s t e target_of (Token IsTarget) (λ (v : ℤ × Option (List ℕ)). FitsSigned w32 v.0) r u h))
   where
     back : (l : Line) → (name : Option (List ℕ)) → (odd : Option ℕ) → mnemonic_of l ≡ word.Call → IsOperands (statement l name odd) s.0 → (w : ℤ × Option (List ℕ)) × Local s.0 w []
     back (line.CallLocal z) name odd m k = ((z, name), k.1)

@@ -4,7 +4,7 @@ use Rattle.std.specs.Int.{w16}
 use Rattle.bpf_types.specs.Line.{IsReg}
 use Rattle.bpf_types.specs.declared.line.Line.{Line}
 use Rattle.bpf_text.specs.Fields.{IsRegister, IsDistance}
-use Rattle.bpf_text.specs.Grammar.{Form, Token, Behind, Then, Bracket}
+use Rattle.bpf_text.specs.Grammar.{Form, Token, After, Then, Bracket}
 use Rattle.bpf_text.specs.Mirror.Reads.{State, Success, Reads, Notes, verdict}
 use Rattle.bpf_text.specs.declared.line.LineFault.{LineFault}
 use Rattle.bpf_text.specs.declared.line.LineFault.TheVariants.{Syntax, Range}
@@ -40,10 +40,10 @@ then_next {f} {F} {s} {v} {t} h g M G (Some x) u k = record {
   only = λ w rest m. k.only w.1 rest (subst (λ (x : List (List ℕ)). M x w.1 rest) (h.only w.0 m.0 m.1) m.2);
 }
 
-pub behind_next : {W X : Type 0} (mark : List ℕ) (s t : State) → (s.0 ≡ mark ∷ t.0) × (t.1 ≡ s.1) → (g : W → X) (M : List (List ℕ) → X → List (List ℕ) → Type 0) (G : X → Type 0) (r : Option W) (u : State) → Reads g M G t r u
-    → Reads g (Behind mark M) G s r u
-behind_next mark s t h g M G None u k = λ w rest m. let e = m.1 in let f = h.0 in let same : m.0 ≡ t.0 = cc in k w rest (subst (λ (x : List (List ℕ)). M x w rest) same m.2)
-behind_next mark s t h g M G (Some x) u k = record {
+pub after_next : {W X : Type 0} (mark : List ℕ) (s t : State) → (s.0 ≡ mark ∷ t.0) × (t.1 ≡ s.1) → (g : W → X) (M : List (List ℕ) → X → List (List ℕ) → Type 0) (G : X → Type 0) (r : Option W) (u : State) → Reads g M G t r u
+    → Reads g (After mark M) G s r u
+after_next mark s t h g M G None u k = λ w rest m. let e = m.1 in let f = h.0 in let same : m.0 ≡ t.0 = cc in k w rest (subst (λ (x : List (List ℕ)). M x w rest) same m.2)
+after_next mark s t h g M G (Some x) u k = record {
   written = k.written;
   is = (t.0, h.0, k.is);
   kept = subst (λ (b : Bool). (G k.written × (g x ≡ k.written) × (u.1 ≡ b)) ⊎ ((¬ G k.written) × (u.1 ≡ true))) h.1 k.kept;

@@ -4,7 +4,7 @@ use Rattle.bpf_text.specs.Tokens.{HasTokens, is_word, is_sign}
 use Rattle.bpf_text.specs.Number.{IsNumeral}
 use Rattle.bpf_text.specs.Fields.{IsName, IsDistance, IsRegister, IsImmediate, IsSecond, IsTarget}
 use Rattle.bpf_text.proofs.FieldLemmas.{letter_no_numeral}
-use Rattle.bpf_text.specs.Grammar.{Form, Token, Behind, Then, ◌⸴◌, Bracket, Memory}
+use Rattle.bpf_text.specs.Grammar.{Form, Token, After, Then, ◌⸴◌, Bracket, Memory}
 use Rattle.bpf_text.specs.Lines.{IsOperands, IsForm, IsBody, HasLabel, Statement}
 use Rattle.bpf_text.specs.Judged.{texts, JudgesForm, JudgesBody, JudgesTokens, JudgesLine}
 use Rattle.bpf_types.specs.declared.line.Line.{Line}
@@ -50,8 +50,8 @@ NoColon {V} F = (tokens rest : List (List ℕ)) (v : V) (after : List (List ℕ)
 no_token : {V : Type 0} (P : List ℕ → V → Type 0) → ((v : V) → P (58 ∷ []) v → ⊥) → NoColon (Token P)
 no_token P never tokens rest v after e m = let f = m.1 in let same : m.0 ≡ 58 ∷ [] = cc in never v (subst (λ (t : List ℕ). P t v) same m.2)
 
-no_behind : {V : Type 0} (octet : ℕ) (octets : List ℕ) (F : Form V) → 58 < octet → NoColon (Behind (octet ∷ octets) F)
-no_behind octet octets F lt tokens rest v after e m = absurd (omega (arith, ap (λ (u : List (List ℕ)). get_or (get_or u 0 []) 0 0) (sym e ∙ m.1)))
+no_after : {V : Type 0} (octet : ℕ) (octets : List ℕ) (F : Form V) → 58 < octet → NoColon (After (octet ∷ octets) F)
+no_after octet octets F lt tokens rest v after e m = absurd (omega (arith, ap (λ (u : List (List ℕ)). get_or (get_or u 0 []) 0 0) (sym e ∙ m.1)))
 
 no_then : {V W : Type 0} (F : Form V) (G : Form W) → NoColon F → NoColon (Then F G)
 no_then F G never tokens rest v after e m = never tokens rest v.0 m.0 e m.1
@@ -60,27 +60,27 @@ no_register_then : {W : Type 0} (G : Form W) → NoColon (Then (Token IsRegister
 no_register_then G = no_then (Token IsRegister) G (no_token IsRegister no_register)
 
 no_memory_then : {W : Type 0} (G : Form W) → NoColon (Then Memory G)
-no_memory_then G = no_then Memory G (no_behind 91 [] (Then (Token IsRegister) Bracket) (omega arith))
+no_memory_then G = no_then Memory G (no_after 91 [] (Then (Token IsRegister) Bracket) (omega arith))
 
 no_target_token : NoColon (Token IsTarget)
 no_target_token = no_token IsTarget (λ w h. no_target 58 w refl refl h)
 
 no_colon_operands : (l : Line) (n : Option (List ℕ)) (odd : Option ℕ) (operands rest : List (List ℕ)) → operands ≡ (58 ∷ []) ∷ rest → IsOperands (statement l n odd) operands → ⊥
-no_colon_operands (line.Arithmetic w o dst operand) n odd operands rest e k = no_register_then (Behind (44 ∷ []) (Token IsSecond)) operands rest (dst, operand) [] e k.2
+no_colon_operands (line.Arithmetic w o dst operand) n odd operands rest e k = no_register_then (After (44 ∷ []) (Token IsSecond)) operands rest (dst, operand) [] e k.2
 no_colon_operands (line.Negate w dst) n odd operands rest e k = no_token IsRegister no_register operands rest dst [] e k.2
-no_colon_operands (line.MoveExtended x dst src) n odd operands rest e k = no_register_then (Behind (44 ∷ []) (Token IsRegister ⸴ Token IsNumeral)) operands rest (dst, (src, k.1)) [] e k.3
-no_colon_operands (line.ByteOrder o s dst) n odd operands rest e k = no_register_then (Behind (44 ∷ []) (Token IsNumeral)) operands rest (dst, k.1) [] e k.3
+no_colon_operands (line.MoveExtended x dst src) n odd operands rest e k = no_register_then (After (44 ∷ []) (Token IsRegister ⸴ Token IsNumeral)) operands rest (dst, (src, k.1)) [] e k.3
+no_colon_operands (line.ByteOrder o s dst) n odd operands rest e k = no_register_then (After (44 ∷ []) (Token IsNumeral)) operands rest (dst, k.1) [] e k.3
 no_colon_operands (line.Jump z) n odd operands rest e k = no_target_token operands rest (z, n) [] e k.1
 no_colon_operands (line.LongJump z) n odd operands rest e k = no_target_token operands rest (z, n) [] e k.1
-no_colon_operands (line.JumpIf w t dst operand z) n odd operands rest e k = no_register_then (Behind (44 ∷ []) (Token IsSecond ⸴ Token IsTarget)) operands rest (dst, (operand, (z, n))) [] e k.1
+no_colon_operands (line.JumpIf w t dst operand z) n odd operands rest e k = no_register_then (After (44 ∷ []) (Token IsSecond ⸴ Token IsTarget)) operands rest (dst, (operand, (z, n))) [] e k.1
 no_colon_operands (line.Call z) n odd operands rest e k = no_token IsImmediate (λ w h. no_number (58 ∷ []) w refl h) operands rest z [] e k.2
-no_colon_operands (line.CallLocal z) n odd operands rest e k = no_behind 108 (111 ∷ 99 ∷ 97 ∷ 108 ∷ []) (Token IsTarget) (omega arith) operands rest (z, n) [] e k.1
+no_colon_operands (line.CallLocal z) n odd operands rest e k = no_after 108 (111 ∷ 99 ∷ 97 ∷ 108 ∷ []) (Token IsTarget) (omega arith) operands rest (z, n) [] e k.1
 no_colon_operands line.Exit n odd operands rest e k = let f = k.2 in absurd cc
-no_colon_operands (line.LoadWide dst value) n odd operands rest e k = no_register_then (Behind (44 ∷ []) (Token IsNumeral)) operands rest (dst, value) [] e k.2
-no_colon_operands (line.Load s dst base z) n odd operands rest e k = no_register_then (Behind (44 ∷ []) Memory) operands rest (dst, (base, z)) [] e k.2
-no_colon_operands (line.LoadExtended s dst base z) n odd operands rest e k = no_register_then (Behind (44 ∷ []) Memory) operands rest (dst, (base, z)) [] e k.2
-no_colon_operands (line.StoreImmediate s base z value) n odd operands rest e k = no_memory_then (Behind (44 ∷ []) (Token IsImmediate)) operands rest ((base, z), value) [] e k.2
-no_colon_operands (line.Store s base z src) n odd operands rest e k = no_memory_then (Behind (44 ∷ []) (Token IsRegister)) operands rest ((base, z), src) [] e k.2
+no_colon_operands (line.LoadWide dst value) n odd operands rest e k = no_register_then (After (44 ∷ []) (Token IsNumeral)) operands rest (dst, value) [] e k.2
+no_colon_operands (line.Load s dst base z) n odd operands rest e k = no_register_then (After (44 ∷ []) Memory) operands rest (dst, (base, z)) [] e k.2
+no_colon_operands (line.LoadExtended s dst base z) n odd operands rest e k = no_register_then (After (44 ∷ []) Memory) operands rest (dst, (base, z)) [] e k.2
+no_colon_operands (line.StoreImmediate s base z value) n odd operands rest e k = no_memory_then (After (44 ∷ []) (Token IsImmediate)) operands rest ((base, z), value) [] e k.2
+no_colon_operands (line.Store s base z src) n odd operands rest e k = no_memory_then (After (44 ∷ []) (Token IsRegister)) operands rest ((base, z), src) [] e k.2
 
 no_colon_form : (s : Statement) (name : List ℕ) (rest tokens : List (List ℕ)) → tokens ≡ name ∷ (58 ∷ []) ∷ rest → IsForm s tokens → ⊥
 no_colon_form s name rest tokens e k = let f = k.1 in let same : k.0 ≡ (58 ∷ []) ∷ rest = cc in no_colon_operands s.line s.name s.unknown_width k.0 rest same k.2

@@ -2,7 +2,7 @@
 use Rattle.std.proofs.Common.{◌≡◌, ℕ, List, [], ◌∷◌, sym, ◌∙◌, subst, inl, inr}
 use Rattle.bpf_text.specs.Number.{IsNumeral}
 use Rattle.bpf_text.specs.Fields.{IsRegister, IsImmediate, IsSecond, IsDistance, IsTarget}
-use Rattle.bpf_text.specs.Grammar.{Form, Token, Behind, Then, ◌⸴◌, Bracket, Memory}
+use Rattle.bpf_text.specs.Grammar.{Form, Token, After, Then, ◌⸴◌, Bracket, Memory}
 use Rattle.bpf_text.proofs.FieldLemmas.{no_closing}
 use Rattle.bpf_text.proofs.UniqueFields.{one_numeral, one_register, one_immediate, one_second, one_distance, one_target}
 
@@ -20,8 +20,8 @@ one_token P one tokens v w rest others (a, e, p) (b, f, q) =
     let left : rest ≡ others = cc in
     (one a v w p (subst (λ t. P t w) same q), left)
 
-pub one_behind : {V : Type 0} (mark : List ℕ) (F : Form V) → OneForm F → OneForm (Behind mark F)
-one_behind mark F one tokens v w rest others (a, e, p) (b, f, q) =
+pub one_after : {V : Type 0} (mark : List ℕ) (F : Form V) → OneForm F → OneForm (After mark F)
+one_after mark F one tokens v w rest others (a, e, p) (b, f, q) =
     let same : b ≡ a = cc in
     one a v w rest others p (subst (λ t. F t w others) same q)
 
@@ -32,7 +32,7 @@ one_then F G one two tokens v w rest others (a, p, q) (b, r, s) =
     (λ i. (x.0 i, y.0 i), y.1)
 
 pub one_list : {V W : Type 0} (F : Form V) (G : Form W) → OneForm F → OneForm G → OneForm (F ⸴ G)
-one_list F G one two = one_then F (Behind (44 ∷ []) G) one (one_behind (44 ∷ []) G two)
+one_list F G one two = one_then F (After (44 ∷ []) G) one (one_after (44 ∷ []) G two)
 
 one_bracket : OneForm Bracket
 one_bracket tokens v w rest others (inl h) (inl k) =
@@ -71,4 +71,4 @@ pub target_form : OneForm (Token IsTarget)
 target_form = one_token IsTarget one_target
 
 pub memory_form : OneForm Memory
-memory_form = one_behind (91 ∷ []) (Then (Token IsRegister) Bracket) (one_then (Token IsRegister) Bracket register_form one_bracket)
+memory_form = one_after (91 ∷ []) (Then (Token IsRegister) Bracket) (one_then (Token IsRegister) Bracket register_form one_bracket)

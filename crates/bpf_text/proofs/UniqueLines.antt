@@ -26,7 +26,7 @@ use Rattle.bpf_text.proofs.Scanning.{one_tokens}
 use Rattle.bpf_text.proofs.JudgeLemmas.{no_local}
 use Rattle.bpf_text.proofs.ReadingLemmas.{no_colon}
 use Rattle.bpf_text.proofs.ReadLemmas.{statement}
-use Rattle.bpf_text.proofs.UniqueForms.{OneForm, one_list, one_behind, register_form, second_form, numeral_form, immediate_form, target_form, memory_form}
+use Rattle.bpf_text.proofs.UniqueForms.{OneForm, one_list, one_after, register_form, second_form, numeral_form, immediate_form, target_form, memory_form}
 
 -- what the law of bpf_canonical states about mnemonics
 abbrev pub AreNamed : Type 0
@@ -126,7 +126,7 @@ one_call_local z (line.Call z') a b odd tokens m h k =
     let same : k.2.0 ≡ 108 ∷ 111 ∷ 99 ∷ 97 ∷ 108 ∷ [] = cc in
     absurd (no_local k.2.0 z' same k.2.2)
 one_call_local z (line.CallLocal z') a b odd tokens m h k =
-    let same = (one_behind (108 ∷ 111 ∷ 99 ∷ 97 ∷ 108 ∷ []) (Token IsTarget) target_form tokens (z, a) (z', b) [] [] h.1 k.1).0 in
+    let same = (one_after (108 ∷ 111 ∷ 99 ∷ 97 ∷ 108 ∷ []) (Token IsTarget) target_form tokens (z, a) (z', b) [] [] h.1 k.1).0 in
     (λ i. line.CallLocal (same i).0, λ i. (same i).1, k.0)
 one_call_local z _ a b odd tokens m h k = absurd cc
 

@@ -11,8 +11,8 @@ abbrev pub Token : {W : Type 0} → (List ℕ → W → Type 0) → Form W
 Token Is tokens w rest = (token : List ℕ) × (tokens ≡ token ∷ rest) × Is token w
 
 -- after a word or a mark
-abbrev pub Behind : List ℕ → {W : Type 0} → Form W → Form W
-Behind word F tokens w rest = (after : List (List ℕ)) × (tokens ≡ word ∷ after) × F after w rest
+abbrev pub After : List ℕ → {W : Type 0} → Form W → Form W
+After word F tokens w rest = (after : List (List ℕ)) × (tokens ≡ word ∷ after) × F after w rest
 
 -- one after the other
 abbrev pub Then : {V W : Type 0} → Form V → Form W → Form (V × W)
@@ -21,7 +21,7 @@ Then F G tokens w rest = (middle : List (List ℕ)) × F tokens w.0 middle × G 
 -- with a comma between them
 infixr 60 ◌⸴◌
 abbrev pub ◌⸴◌ : {V W : Type 0} → Form V → Form W → Form (V × W)
-F ⸴ G = Then F (Behind (codes ",") G)
+F ⸴ G = Then F (After (codes ",") G)
 
 -- an offset, which is zero if it is left out, and the closing bracket
 abbrev pub Bracket : Form ℤ
@@ -31,4 +31,4 @@ Bracket tokens z rest =
 
 -- an operand in memory, for example [r2+8]
 abbrev pub Memory : Form (ℕ × ℤ)
-Memory = Behind (codes "[") (Then (Token IsRegister) Bracket)
+Memory = After (codes "[") (Then (Token IsRegister) Bracket)

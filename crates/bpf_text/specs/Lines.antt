@@ -9,7 +9,7 @@ use Rattle.bpf_canonical.specs.Mnemonics.{mnemonic_name, mnemonic_of}
 use Rattle.bpf_text.specs.Number.{IsNumeral}
 use Rattle.bpf_text.specs.Tokens.{HasTokens}
 use Rattle.bpf_text.specs.Fields.{IsRegister, IsImmediate, IsSecond, IsTarget, IsName}
-use Rattle.bpf_text.specs.Grammar.{Form, Token, Behind, ◌⸴◌, Memory}
+use Rattle.bpf_text.specs.Grammar.{Form, Token, After, ◌⸴◌, Memory}
 
 -- an instruction, the name that is in place of its distance, and the number that is in
 -- place of its width if there is no such width
@@ -66,7 +66,7 @@ HasOperands (line.JumpIf width comparison dst operand distance) s tokens =
 HasOperands (line.Call number) s tokens =
     IsNameless s × HasWidth s × Are (Token IsImmediate) number tokens
 HasOperands (line.CallLocal distance) s tokens =
-    HasWidth s × Are (Behind (codes "local") (Token IsTarget)) (distance, s.name) tokens
+    HasWidth s × Are (After (codes "local") (Token IsTarget)) (distance, s.name) tokens
 HasOperands line.Exit s tokens = IsNameless s × HasWidth s × (tokens ≡ [])
 HasOperands (line.LoadWide dst value) s tokens =
     IsNameless s × HasWidth s × Are (Token IsRegister ⸴ Token IsNumeral) (dst, value) tokens
