@@ -16,7 +16,7 @@ use crate::laws::{faults_are_unique, meanings_are_unique, meanings_exclude_fault
 use crate::listings::admitted_images_are_meant_by_their_listings;
 use crate::resolving::{line_up_to, resolve_all};
 use crate::table::{Row, Table};
-use bpf_decode::images_are_unique;
+use bpf_decode::laws::images_are_unique;
 use ocp_loader::{LoadFault, approve};
 use ocp_profile::Profile;
 use std::alloc::{Allocator, Global};

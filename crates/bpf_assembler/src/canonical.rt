@@ -10,7 +10,7 @@ ghost use Rattle.bpf_assembler.specs.declared.fault.AsmFault.TheVariants.{Memory
 use crate::assembling::{both_passes, with_line};
 use crate::fault::AsmFault;
 use crate::laws::meanings_exclude_faults;
-use bpf_decode::images_are_unique;
+use bpf_decode::laws::images_are_unique;
 use ocp_loader::load;
 use ocp_profile::Profile;
 use std::alloc::Allocator;

@@ -16,10 +16,10 @@ ghost use Rattle.bpf_assembler.specs.declared.fault.Why.{Why};
 ghost use Rattle.bpf_assembler.specs.declared.fault.Why.TheVariants.{Load};
 ghost use Rattle.bpf_text.specs.Lines.{TextLine, Statement};
 
-use bpf_decode::images_are_unique;
+use bpf_decode::laws::images_are_unique;
 use bpf_text::laws::readings_are_unique;
 use bpf_text::read_line;
-use ocp_loader::{
+use ocp_loader::laws::{
     faults_are_of_images_that_may_not_be_run, images_that_load_may_be_run,
     places_are_counted_in_slots,
 };

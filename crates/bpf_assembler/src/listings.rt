@@ -12,8 +12,8 @@ ghost use Rattle.ocp_loader.specs.Admitted.{IsAdmitted, IsAdmittedAs};
 ghost use Rattle.bpf_assembler.specs.Text.{Means};
 
 use crate::laws::meanings_are_unique;
-use bpf_canonical::listings_have_a_line_for_each_instruction;
-use bpf_decode::images_are_unique;
+use bpf_canonical::laws::listings_have_a_line_for_each_instruction;
+use bpf_decode::laws::images_are_unique;
 use bpf_text::laws::canonical_texts_are_read_back;
 
 /// A listing means the instructions that it lists.

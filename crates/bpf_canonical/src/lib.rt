@@ -1,12 +1,11 @@
 //! The canonical text of an instruction: its mnemonic and its operands.
 #![tactic(auto)]
 
-mod laws;
+pub mod laws;
 mod mnemonic;
 mod text;
 mod writing;
 
-pub use laws::{listings_have_a_line_for_each_instruction, mnemonics_are_unique};
 pub use mnemonic::{Mnemonic, Stem, mnemonic_of, read_mnemonic};
 pub use text::{MAX_TEXT_LENGTH, Text};
 pub use writing::{line_text, text_of};

@@ -8,9 +8,8 @@ ghost use Rattle.bpf_listing.specs.Listing.{IsListed, IsRefusal};
 ghost use Rattle.bpf_listing.specs.Mirror.Written.{Continues, IsFaultOf, IsFlushed, IsWritten};
 
 use bpf_canonical::{MAX_TEXT_LENGTH, Text};
-use bpf_decode::{
-    DecodeFault, decode_at, faults_of_images_are_unique, images_are_unique, images_are_whole_slots,
-};
+use bpf_decode::laws::{faults_of_images_are_unique, images_are_unique, images_are_whole_slots};
+use bpf_decode::{DecodeFault, decode_at};
 use core::mem::replace_with;
 use std::alloc::Allocator;
 use thiserror::Error;

@@ -8,7 +8,7 @@ ghost use Rattle.bpf_decode.specs.Images.{HasFaultAt};
 ghost use Rattle.bpf_canonical.specs.Canonical.{canonical};
 ghost use Rattle.bpf_listing.specs.Listing.{IsListed, HasListing, HasFault};
 
-use bpf_decode::{
+use bpf_decode::laws::{
     faults_of_images_are_unique, images_are_unique, images_are_whole_slots,
     octets_are_decoded_one_way,
 };

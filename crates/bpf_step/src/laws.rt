@@ -11,11 +11,11 @@ ghost use Rattle.bpf_step.specs.Step.{one_step, step};
 ghost use Rattle.bpf_step.specs.Runs.{local_run};
 ghost use Rattle.bpf_step.specs.Reach.{Reaches, IsFound, IsFramed};
 
-use ocp_loader::{
+use ocp_loader::laws::{
     faults_are_of_images_that_may_not_be_run, images_begin_with_an_instruction,
     lines_stand_at_their_places, places_lead_to_places,
 };
-use ocp_regions::{cleared_memory_is_the_first_one, stores_keep_the_addresses};
+use ocp_regions::laws::{cleared_memory_is_the_first_one, stores_keep_the_addresses};
 
 /// The step of an admitted image is that of the line whose octets are at the place.
 pub fn steps_are_those_of_the_lines()

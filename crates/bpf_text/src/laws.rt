@@ -10,7 +10,7 @@ ghost use Rattle.bpf_text.specs.Judged.{JudgesLine, written_line};
 ghost use Rattle.bpf_text.specs.declared.line.TextLine as lent;
 ghost use Rattle.bpf_text.specs.declared.line.LineFault.{LineFault};
 
-use bpf_canonical::mnemonics_are_unique;
+use bpf_canonical::laws::mnemonics_are_unique;
 
 /// A line of text whose numbers are in their ranges is read in one way: it has one label at most
 /// and one instruction at most.

@@ -4,7 +4,7 @@
 
 mod fault;
 mod fields;
-mod laws;
+pub mod laws;
 mod payload;
 mod reading_reports;
 mod reading_requests;
@@ -15,10 +15,6 @@ mod writing;
 
 pub use fault::ReportFault;
 pub use fields::{Fields, MAX_FIELDS_LENGTH};
-pub use laws::{
-    read_reports_are_laid_out, read_requests_are_laid_out, reports_are_read_back,
-    requests_are_read_back,
-};
 pub use obcp_types::{RequestFault, Status, StatusRow};
 pub use payload::{Arguments, Code, MAX_ARGUMENTS_LENGTH, MAX_CODE_LENGTH, MAX_WORDS, Words};
 pub use reading_reports::read_report;

@@ -19,7 +19,7 @@ ghost use Rattle.ocp_c.specs.Opening.{opening, IsOpened};
 mod exchange;
 mod handle;
 mod journal;
-mod laws;
+pub mod laws;
 mod loose;
 mod open_engine;
 mod opening;
@@ -31,7 +31,6 @@ mod size;
 mod status;
 
 pub use handle::Handle;
-pub use laws::reports_are_few;
 use ocp_flight::{Command, StepOutcome};
 pub use open_engine::OpenEngine;
 use opening::open;

@@ -15,7 +15,8 @@ use crate::word::WORDS;
 use bpf_step::FRAME_POINTER;
 use bpf_step::laws::machines_started_anew_are_as_new;
 use ocp_loader::{MAX_SLOTS, Program};
-use ocp_regions::{ARGUMENT_OCTETS, ARGUMENTS, memories_have_octets};
+use ocp_regions::laws::memories_have_octets;
+use ocp_regions::{ARGUMENT_OCTETS, ARGUMENTS};
 use std::alloc::Allocator;
 
 /// What is known of a machine that is started: R1 is the address of the arguments, R2 their number,

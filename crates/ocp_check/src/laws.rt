@@ -5,7 +5,7 @@ ghost use Rattle.ocp_regions.specs.Memory.{Octets, number_in_memory, memory_afte
 ghost use Rattle.ocp_regions.specs.Access.{HasOctets};
 ghost use Rattle.ocp_check.specs.Mirror.Ranges.{IsThere};
 
-use ocp_regions::{
+use ocp_regions::laws::{
     accesses_inside_a_region_are_there, memories_have_octets, stores_keep_the_addresses,
 };
 

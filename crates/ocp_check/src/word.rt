@@ -10,7 +10,7 @@ ghost use Rattle.ocp_check.specs.Mirror.Words.{IsWord, AreWords, IsSameFrom, gre
 
 use crate::form::{BASES, Form, Forms, form_of_known, is_free, is_of_base, is_shifted};
 use crate::range::{Range, is_within, number_of};
-use ocp_regions::loads_give_what_was_stored;
+use ocp_regions::laws::loads_give_what_was_stored;
 
 /// How many words are known of at a slot, at most.
 pub(crate) const WORDS: usize = 8;

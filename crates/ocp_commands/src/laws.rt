@@ -6,7 +6,7 @@ ghost use Rattle.ocp_commands.specs.Assembly.{Assembles};
 ghost use Rattle.ocp_commands.specs.Listings.{Lists};
 
 use bpf_assembler::laws as texts;
-use bpf_listing::listings_and_faults_are_unique;
+use bpf_listing::laws::listings_and_faults_are_unique;
 
 /// An input of `list` has one output and one answer at most: it is a function of the input.
 pub fn listings_are_unique()

@@ -14,7 +14,7 @@ ghost use Rattle.ocp_loader.specs.Admitted.{IsAdmitted, IsAdmittedAs};
 ghost use Rattle.ocp_loader.specs.LineAt.{line_of, IsPlace, IsLineAt};
 ghost use Rattle.ocp_loader.specs.LoadResult.{load_result};
 
-use bpf_decode::{instructions_are_decoded, writes_of_the_frame_pointer_are_refused};
+use bpf_decode::laws::{instructions_are_decoded, writes_of_the_frame_pointer_are_refused};
 
 /// An image that may be run is judged to be its lines by slot. So an image that has a fault may not
 /// be run.

@@ -14,9 +14,4 @@ pub mod laws;
 mod regions;
 
 pub use fault::AccessFault;
-pub use laws::{
-    accesses_inside_a_region_are_there, cleared_memory_is_the_first_one,
-    loads_give_what_was_stored, memories_have_octets, octets_stand_at_their_addresses,
-    stores_keep_the_addresses,
-};
 pub use regions::{ARGUMENT_OCTETS, ARGUMENTS, Regions, STACK, STACK_OCTETS};

@@ -5,7 +5,8 @@ ghost use Rattle.pus_fields.specs.Telemetry.{telemetry_octets};
 ghost use Rattle.ocp_reports.specs.Packets.{IsTelemetryPacket, together};
 ghost use Rattle.ocp_reports.specs.Room.{HasRoomAfter};
 
-use pus_fields::{Tm, telemetry_octets_are_read_back, write_tm};
+use pus_fields::laws::telemetry_octets_are_read_back;
+use pus_fields::{Tm, write_tm};
 use std::alloc::{AllocError, Allocator, Global};
 use std::marker::Model;
 

@@ -4,7 +4,8 @@ ghost use Rattle.ocp_table.specs.Clauses.{HasAddressesOf, IsWithin, StandsIn, le
 
 use crate::{InstructionOutcome, ProcedureFault};
 use bpf_step::{Local, Machine, Need};
-use ocp_loader::{Lines, LoadFault, Program, places_lead_to_places};
+use ocp_loader::laws::places_lead_to_places;
+use ocp_loader::{Lines, LoadFault, Program};
 use ocp_pool::{Mailbox, Pool, engine_call};
 use ocp_profile::Profile;
 use ocp_regions::ARGUMENT_OCTETS;

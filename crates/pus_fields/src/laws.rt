@@ -9,7 +9,7 @@ ghost use Rattle.pus_fields.specs.Telemetry.{IsTelemetry, IsTelemetryInRange, Te
 ghost use Rattle.pus_fields.specs.TelemetryFaults.{telemetry_of};
 ghost use Rattle.pus_fields.specs.declared.writing.TheConstants.{MAX_TELECOMMAND_DATA, MAX_TELEMETRY_DATA};
 
-use space_packet::written_octets_are_the_packet;
+use space_packet::laws::{one_packet_for_a_header, written_octets_are_the_packet};
 
 /// The octets of a telecommand are its packet.
 pub fn telecommand_octets_are_its_packet()
@@ -25,7 +25,7 @@ pub fn one_packet_for_a_telecommand()
     ensures { (octets : List ℕ) (tc : Telecommand) → All IsOctet octets → IsTelecommand octets tc →
         octets ≡ telecommand_octets tc }
 {
-    space_packet::one_packet_for_a_header();
+    one_packet_for_a_header();
     written_octets_are_the_packet();
 }
 
@@ -51,7 +51,7 @@ pub fn one_packet_for_telemetry()
     ensures { (octets : List ℕ) (tm : Telemetry) → All IsOctet octets → IsTelemetry octets tm →
         octets ≡ telemetry_octets tm }
 {
-    space_packet::one_packet_for_a_header();
+    one_packet_for_a_header();
     written_octets_are_the_packet();
 }
 

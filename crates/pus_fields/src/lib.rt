@@ -4,7 +4,7 @@
 mod ack;
 mod error_control;
 mod fault;
-mod laws;
+pub mod laws;
 mod reading;
 mod rejecting;
 mod telecommand;
@@ -14,11 +14,6 @@ mod writing;
 pub use ack::Ack;
 pub use error_control::crc16;
 pub use fault::{Discard, Rejection, TcFault, TmFault, WriteFault};
-pub use laws::{
-    one_packet_for_a_telecommand, one_packet_for_telemetry, telecommand_octets_are_its_packet,
-    telecommand_octets_are_read_back, telemetry_octets_are_its_packet,
-    telemetry_octets_are_read_back,
-};
 pub use reading::{read_tc, read_tm};
 pub use telecommand::Tc;
 pub use telemetry::Tm;

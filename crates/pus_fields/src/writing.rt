@@ -11,7 +11,7 @@ use crate::fault::WriteFault;
 use crate::telecommand::Tc;
 use crate::telemetry::Tm;
 use bitflags::Flags;
-use space_packet::written_octets_are_the_packet;
+use space_packet::laws::written_octets_are_the_packet;
 use std::alloc::Allocator;
 
 /// The first octet of a secondary header: version number 2 in its higher four bits.

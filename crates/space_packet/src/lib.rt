@@ -6,14 +6,13 @@
 #![tactic(auto)]
 
 mod fault;
-mod laws;
+pub mod laws;
 mod primary;
 mod range;
 mod reading;
 mod writing;
 
 pub use fault::{PacketFault, WriteFault};
-pub use laws::{one_header_for_a_packet, one_packet_for_a_header, written_octets_are_the_packet};
 pub use primary::{Primary, SequenceFlags};
 pub use range::{APIDS, Apid, IDLE_APID, SEQUENCE_COUNTS, SequenceCount};
 pub use reading::{HEADER_LENGTH, read};
