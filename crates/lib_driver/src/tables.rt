@@ -6,6 +6,7 @@ use crate::machines::few;
 use crate::output::Output;
 use crate::pools::pool_of;
 use crate::views::show_view;
+use bpf_moves::{REGISTERS, Registers};
 use driver_lines::*;
 use ocp_core::StepOutcome;
 use ocp_debug::{Trace, clear_break, set_break, set_trace, trace_text, view, view_text};
@@ -149,9 +150,9 @@ fn outcome_of(word: &str) -> Result<StepOutcome, Fault> {
 }
 
 /// The registers of these words.
-fn registers_of(alloc: Global, words: &[&str]) -> Result<[u64; 11], Fault> {
+fn registers_of(alloc: Global, words: &[&str]) -> Result<Registers, Fault> {
     let numbers = numbers_of(alloc, words)?;
-    let mut registers = [0; 11];
+    let mut registers = [0; REGISTERS];
     if numbers.len() != registers.len() {
         return Err(Fault::Syntax);
     }

@@ -16,25 +16,15 @@ ghost use Rattle.ocp_c.specs.Records.{kept_record, record_or, record_status, tra
 
 use crate::status::write_value;
 use crate::{Handle, Procedure, Record, Status};
+use bpf_moves::{REGISTERS, Registers};
 use std::alloc::Global;
 
 // Writes registers to the beginning of a buffer that has room for them.
-fn write_registers(buffer: &mut [u64], registers: &[u64; 11])
+fn write_registers(buffer: &mut [u64], registers: &Registers)
     requires { 11 ≤ length buffer.old }
     ensures { buffer.new ≡ registers.now ++ drop 11 buffer.old }
 {
-    buffer[..11].copy_from_slice(registers);
-}
-
-// The identifier that a number is, if it is one.
-fn identifier_in(number: u32) -> Option<u16>
-    ensures { result ≡ identifier_in number }
-{
-    if number < 65536 {
-        Some(number as u16)
-    } else {
-        None
-    }
+    buffer[..REGISTERS].copy_from_slice(registers);
 }
 
 /// The procedure whose turn is next.
@@ -56,7 +46,7 @@ pub extern "C" fn ocp_next_running(
         (id : ℕ) → Runs (world_of flown.log).records id → ⊥ }
     ensures same { result ≢ number_of status.Done → id.new ≡ id.old }
 {
-    let after = identifier_in(after);
+    let after = u16::try_from(after).ok();
     let given = handle.with_engine(alloc, |engine| {
         engine.next_running(after).ok_or(Status::NoneRunning)
     });
@@ -104,7 +94,7 @@ pub extern "C" fn ocp_view(
         registers_or (length registers.old) (view_at (get (world_of flown.log).records id))
         registers.old) }
 {
-    if registers.len() < 11 {
+    if registers.len() < REGISTERS {
         return handle.answer(alloc, |_| Status::BufferTooSmall);
     }
     match handle.with_engine(alloc, |engine| engine.view(id)) {
@@ -135,7 +125,7 @@ pub extern "C" fn ocp_trace_record(
     ensures registers { registers.new ≡ writes handle.old.held registers.old
         (λ flown. traced_or (length registers.old) (kept_record flown index) registers.old) }
 {
-    if registers.len() < 11 {
+    if registers.len() < REGISTERS {
         return handle.answer(alloc, |_| Status::BufferTooSmall);
     }
     match handle.with_engine(alloc, |engine| engine.trace_record(index).copied()) {

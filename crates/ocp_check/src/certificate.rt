@@ -5,9 +5,10 @@ ghost use Rattle.ocp_check.specs.Mirror.Callers.{node_after_return};
 use crate::form::Forms;
 use crate::range::Range;
 use crate::word::{Words, above, later};
+use bpf_moves::REGISTERS;
 
 /// What is known of the eleven registers.
-pub type Row = [Option<Range>; 11];
+pub type Row = [Option<Range>; REGISTERS];
 
 /// What is known of each machine whose place is a slot.
 #[derive(Clone, Copy, PartialEq, Eq, Debug)]

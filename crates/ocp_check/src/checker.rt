@@ -12,6 +12,7 @@ use crate::covering::{covers, node_at};
 use crate::range::{between, only};
 use crate::steps::is_kept;
 use crate::word::WORDS;
+use bpf_moves::REGISTERS;
 use bpf_step::FRAME_POINTER;
 use bpf_step::laws::machines_started_anew_are_as_new;
 use ocp_loader::{MAX_SLOTS, Program};
@@ -32,7 +33,7 @@ pub(crate) fn at_start() -> Node
         row: [
             zero, address, number, zero, zero, zero, zero, zero, zero, zero, end,
         ],
-        forms: [None; 11],
+        forms: [None; REGISTERS],
         words: [None; WORDS],
         kept: 0,
         spared: 0,

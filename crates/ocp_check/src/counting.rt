@@ -6,6 +6,7 @@ ghost use Rattle.ocp_check.specs.Mirror.Ranks.{way_of, share, share_of, total_sh
 use crate::certificate::Row;
 use crate::covering::range_of;
 use crate::range::Range;
+use bpf_moves::REGISTERS;
 use bpf_types::Reg;
 
 /// The most counters of an image.
@@ -41,7 +42,7 @@ pub(crate) enum Step {
 }
 
 /// What becomes of the eleven registers.
-pub(crate) type Steps = [Step; 11];
+pub(crate) type Steps = [Step; REGISTERS];
 
 /// A sum that grows by at most `more`, and then falls by `less`.
 #[derive(Clone, Copy)]

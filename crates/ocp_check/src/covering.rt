@@ -12,6 +12,7 @@ use crate::certificate::{Node, Row};
 use crate::form::{BASES, Form, Forms, form_of_known, form_of_sum, is_shifted, range_by_tie};
 use crate::range::{Range, is_within, only};
 use crate::word::{WORDS, Words, free_base, is_word_shifted};
+use bpf_moves::REGISTERS;
 use bpf_types::{Operand, Reg};
 
 /// What is known of a register.
@@ -39,7 +40,7 @@ fn are_within(inner: &Row, outer: &Row) -> bool
     ensures { IsTrue result → (k : ℕ) → k < 11 → (v : ℕ) →
         IsIn (slice_index_or inner.now k None) v → IsIn (slice_index_or outer.now k None) v }
 {
-    for k in 0..11 {
+    for k in 0..REGISTERS {
         if !is_within(inner[k], outer[k]) {
             return false;
         }
@@ -86,7 +87,7 @@ fn shifts_of(from: &Node, node: &Node) -> [Form; BASES] {
             add_shift(&mut shifts, to.form, form_of_known(from.known, from.form));
         }
     }
-    for k in 0..11 {
+    for k in 0..REGISTERS {
         add_shift(
             &mut shifts,
             node.forms[k],
@@ -128,7 +129,7 @@ fn are_shifted(shifts: &[Form; BASES], from: &Node, node: &Node) -> bool
         AreIn from.now.row registers → AreFormed from.now.forms bases registers →
         AreFormed node.now.forms (bases_after shifts.now bases) registers }
 {
-    for k in 0..11 {
+    for k in 0..REGISTERS {
         if !is_shifted(
             shifts,
             form_of_known(from.row[k], from.forms[k]),
@@ -166,7 +167,7 @@ fn row_with_known(row: &Row, forms: &Forms, register: Reg, known: Option<Range>)
 {
     let mut changed = *row;
     let other = forms[usize::from(register.number())];
-    for k in 0..11 {
+    for k in 0..REGISTERS {
         changed[k] = range_by_tie(row[k], forms[k], other, known);
     }
     changed[usize::from(register.number())] = known;

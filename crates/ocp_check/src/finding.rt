@@ -14,6 +14,7 @@ use crate::range::{Range, is_empty, lesser, only, stride_of, sum};
 use crate::steps::{after_line, at_call, range_by_test, target};
 use crate::tying::{CELLS, cells_of, narrow_by_forms, ties_of};
 use crate::word::{WORDS, Word};
+use bpf_moves::REGISTERS;
 use bpf_step::{FRAME_OCTETS, MAX_LOCAL_CALLS};
 use bpf_types::{Line, Operand, Reg};
 use ocp_loader::Program;
@@ -160,7 +161,7 @@ fn node_of(
     forms: &[Option<Form>; CELLS],
 ) -> Node {
     let mut node = *old;
-    for k in 0..11 {
+    for k in 0..REGISTERS {
         node.row[k] = row[k];
         node.forms[k] = forms[k];
     }
@@ -168,8 +169,8 @@ fn node_of(
         node.words[k] = match (old.words[k], from.words[k]) {
             (Some(word), Some(same)) if word.address == same.address => Some(Word {
                 address: word.address,
-                known: row[11 + k],
-                form: forms[11 + k],
+                known: row[REGISTERS + k],
+                form: forms[REGISTERS + k],
             }),
             _ => None,
         };

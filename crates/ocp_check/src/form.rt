@@ -8,6 +8,7 @@ ghost use Rattle.ocp_check.specs.declared.form.Form.{Form};
 ghost use Rattle.ocp_check.specs.Mirror.Forms.{IsForm, number_by, bases_after};
 
 use crate::range::{Range, follows, number_of, only, product, sum};
+use bpf_moves::REGISTERS;
 use bpf_types::{Operation, Width};
 
 /// A number as `times` the number of a base and `plus` more, modulo 2 ^ 64. Numbers of one base are
@@ -20,7 +21,7 @@ pub struct Form {
 }
 
 /// The forms of the eleven registers.
-pub type Forms = [Option<Form>; 11];
+pub type Forms = [Option<Form>; REGISTERS];
 
 /// The most bases at a slot.
 pub(crate) const BASES: usize = 20;
@@ -177,7 +178,7 @@ pub(crate) fn is_free(forms: &Forms, base: u8) -> bool
     ensures { IsTrue result → (k : ℕ) → k < 11 → (f : Form) →
         slice_index_or forms.now k None ≡ Some f → f.base ≢ base }
 {
-    for k in 0..11 {
+    for k in 0..REGISTERS {
         if is_of_base(forms[k], base) {
             return false;
         }

@@ -12,6 +12,7 @@ use crate::rounds::{
     Ranks, ahead_after, ahead_at, most_at, step_of_line, steps_of_call, steps_with,
 };
 use crate::steps::target;
+use bpf_moves::REGISTERS;
 use bpf_types::{Line, Reg};
 use ocp_loader::Program;
 use std::alloc::{AllocError, Allocator};
@@ -131,7 +132,7 @@ fn rank_by(
 /// The same of a jump by a distance.
 fn rank_of_jump(all: &Ranks<'_>, slot: u16, node: &Node, distance: i32, cut: Option<Cut>) -> u64 {
     match target(slot, distance) {
-        Some(place) => rank_by(all, slot, node, place, &[Step::Kept; 11], cut),
+        Some(place) => rank_by(all, slot, node, place, &[Step::Kept; REGISTERS], cut),
         None => 0,
     }
 }

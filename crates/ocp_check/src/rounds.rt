@@ -28,6 +28,7 @@ use crate::covering::{node_at, range_of, row_at, tie_of, with_base};
 use crate::form::Form;
 use crate::range::Range;
 use crate::steps::{after_operation, place_after, target};
+use bpf_moves::REGISTERS;
 use bpf_types::{Line, Operand, Operation, Reg, Width};
 use ocp_loader::{MAX_SLOTS, Program};
 use std::alloc::Allocator;
@@ -93,7 +94,7 @@ pub(crate) fn step_of_line(node: &Node, line: &Line) -> Step
 pub(crate) fn steps_with(register: Reg, step: Step) -> Steps
     ensures { result ≡ slice_set kept_steps register step }
 {
-    let mut steps = [Kept; 11];
+    let mut steps = [Kept; REGISTERS];
     steps[usize::from(register.number())] = step;
     steps
 }
@@ -163,7 +164,13 @@ pub(crate) fn most_at(all: &Ranks<'_>, place: usize) -> Option<u64>
     ensures { IfSome result (λ most. (t : State) → t.place ≡ place → Fits all.now.nodes.now t →
         value_at all.now.ranks.now all.now.counters.now t.place t.registers ≤ most) }
 {
-    ahead_at(all, &[false; COUNTERS], &[None; 11], place, &[Anywhere; 11])
+    ahead_at(
+        all,
+        &[false; COUNTERS],
+        &[None; REGISTERS],
+        place,
+        &[Anywhere; REGISTERS],
+    )
 }
 
 /// How many instructions may follow after a local call has ended.
@@ -236,7 +243,7 @@ fn jump_lowers(all: &Ranks<'_>, slot: u16, distance: Option<i32>, node: &Node) -
         Falls all.now.ranks.now all.now.counters.now most s (Next (state_after_jump s distance)) }
 {
     match place_after(slot, distance) {
-        Some(place) => lowers(all, slot, node, place, &[Kept; 11]),
+        Some(place) => lowers(all, slot, node, place, &[Kept; REGISTERS]),
         None => false,
     }
 }
@@ -264,7 +271,7 @@ fn store_lowers(all: &Ranks<'_>, slot: u16, node: &Node) -> bool
         Falls all.now.ranks.now all.now.counters.now most s
         (outcome_by s (store_memory s.registers written) NoInstruction) }
 {
-    lowers(all, slot, node, usize::from(slot) + 1, &[Kept; 11])
+    lowers(all, slot, node, usize::from(slot) + 1, &[Kept; REGISTERS])
 }
 
 /// The same of both ways of a conditional jump.

@@ -7,12 +7,13 @@ use crate::form::{
 };
 use crate::range::{Range, number_of};
 use crate::word::WORDS;
+use bpf_moves::REGISTERS;
 
 /// The greatest factor of a tie.
 const MOST_TIMES: u64 = 4096;
 
 /// How many registers and words a node has.
-pub(crate) const CELLS: usize = 11 + WORDS;
+pub(crate) const CELLS: usize = REGISTERS + WORDS;
 
 /// What is known of the registers, and of the words after them.
 #[derive(Clone, Copy)]
@@ -28,15 +29,15 @@ pub(crate) fn cells_of(node: &Node, other: &Node) -> Cells {
         row: [None; CELLS],
         forms: [None; CELLS],
     };
-    for k in 0..11 {
+    for k in 0..REGISTERS {
         cells.row[k] = node.row[k];
         cells.forms[k] = node.forms[k];
     }
     for k in 0..WORDS {
         if let (Some(word), Some(same)) = (node.words[k], other.words[k]) {
             if word.address == same.address {
-                cells.row[11 + k] = word.known;
-                cells.forms[11 + k] = word.form;
+                cells.row[REGISTERS + k] = word.known;
+                cells.forms[REGISTERS + k] = word.form;
             }
         }
     }

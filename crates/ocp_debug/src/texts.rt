@@ -8,6 +8,7 @@ use crate::text::{
     push_status,
 };
 use crate::{Trace, View};
+use bpf_moves::Registers;
 use std::alloc::{AllocError, Allocator};
 
 /// Appends the line of a procedure's status.
@@ -57,7 +58,7 @@ fn push_register(text: &mut Text, index: u8, register: u64)
 }
 
 /// Appends the lines of the registers.
-fn push_registers(text: &mut Text, registers: &[u64; 11])
+fn push_registers(text: &mut Text, registers: &Registers)
     requires { length text.old + 242 ≤ TEXT_OCTETS }
     ensures { text.new ≡ text.old ++ register_lines 0 registers.now }
 {

@@ -1,6 +1,7 @@
 //! Trace records.
 
 use bpf_decode::EncodedLine;
+use bpf_moves::Registers;
 use ocp_table::StepOutcome;
 
 /// How many trace records are kept, the last ones.
@@ -10,7 +11,7 @@ pub const TRACE_RECORDS: usize = 256;
 #[derive(Clone, Copy)]
 pub struct Trace {
     /// R0 to R10 after the instruction.
-    pub registers: [u64; 11],
+    pub registers: Registers,
     /// The instruction, which is decoded if the record is printed.
     pub line: EncodedLine,
     pub id: u16,

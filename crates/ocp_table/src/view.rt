@@ -1,5 +1,6 @@
 //! What is shown of a procedure.
 use crate::{Cause, Pending};
+use bpf_moves::Registers;
 use obcp_types::Status;
 
 /// What is shown of a procedure.
@@ -12,7 +13,7 @@ pub struct View {
     /// How many local calls have not returned.
     pub depth: usize,
     pub pending: Pending,
-    pub registers: [u64; 11],
+    pub registers: Registers,
     /// How many instructions are left of the budget, if one is set.
     pub remaining: Option<u32>,
 }
