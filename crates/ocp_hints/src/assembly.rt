@@ -3,10 +3,9 @@
 ghost use Rattle.std.specs.Prelude.{IfSome};
 ghost use Rattle.ocp_hints.specs.Columns.{IsWithin};
 
-use crate::hint::{Hint, Mark, Result, Shown, front_of, mark_at};
+use crate::hint::{Hint, Mark, Result, Shown, Table, front_of, mark_at, text_on};
 use crate::image::sentence_of;
 use crate::line::{self, Line, MARKS, Reader, line_at, word_of};
-use crate::tables::{Table, text_on};
 use bpf_assembler::{AsmFault, Why, assemble};
 use bpf_canonical::read_mnemonic;
 use bpf_text::read_line;
@@ -72,47 +71,48 @@ fn sentence_on_stray(alloc: Global, word: &[u8]) -> Result<&'static [u8]> {
 }
 
 /// What was unexpected in a line that is Syntax. A zero octet comes before all.
-fn mark_of_syntax(alloc: Global, line: &Line<'_>) -> Result<Mark> {
+fn mark_of_syntax(line: Line<'_>) -> Result<Mark> {
     let (form, _, count) = line.best_form(FORMS)?;
-    let has_zero = line.at(line.last()).1.starts_with(b"\0");
-    let (column, word) = line.at(if has_zero { line.last() } else { count });
+    let (column, word) = match line.text.iter().position(|octet| *octet == 0) {
+        Some(column) => (column, b"\0".as_slice()),
+        None => line.at(count),
+    };
     let sentence: &[u8] = match (text_on(word, MARKS), word) {
         (Some(sentence), _) => sentence,
         (_, [(128..), ..]) => b"outside of comments a text is plain ASCII",
         _ if line.at(1).1 == b":".as_slice() => b"a line has one label at most",
-        _ if count == 0 => sentence_on_stray(alloc, word)?,
+        _ if count == 0 => sentence_on_stray(line.alloc, word)?,
         _ => {
             let (mnemonic, form) = (Shown(line.at(0).1), Shown(form));
-            return Ok((column, format!(in alloc; "{mnemonic} {form}")?));
+            return Ok((column, format!(in line.alloc; "{mnemonic} {form}")?));
         }
     };
-    mark_at(alloc, column, sentence)
+    mark_at(line.alloc, column, sentence)
 }
 
 /// What was out of its range in a line.
-fn mark_of_range(alloc: Global, line: &Line<'_>) -> Result<Mark> {
+fn mark_of_range(line: Line<'_>) -> Result<Mark> {
     let (_, example, count) = line.best_form(FORMS)?;
     let sentence = text_on(word_of(example, count.saturating_sub(1)), RANGES).unwrap_or(&[]);
-    mark_at(alloc, line.at(count.min(line.last())).0, sentence)
+    mark_at(line.alloc, line.at(count).0.min(line.last()), sentence)
 }
 
 /// What was unexpected in a line of assembly text.
 fn mark_of_line(alloc: Global, text: &[u8], why: Why) -> Result<Mark> {
-    let line = Line::new(alloc, Reader::Assembler(why), text, 0)?;
+    let line = Line::new(alloc, Reader::Assembler(why), text);
     let (label, _) = line.at(0);
     let has_label = line.at(1).1 == b":".as_slice();
     let (begin, _) = line.at(if has_label { 2 } else { 0 });
-    let line = Line::new(alloc, Reader::Assembler(why), text, begin)?;
-    let (last, _) = line.at(line.last());
+    let line = Line { begin, ..line };
     match why {
         Why::Syntax if read_line(front_of(text, begin)).is_err() => mark_at(alloc, label, NO_LABEL),
-        Why::Syntax => mark_of_syntax(alloc, &line),
-        Why::Range => mark_of_range(alloc, &line),
+        Why::Syntax => mark_of_syntax(line),
+        Why::Range => mark_of_range(line),
         Why::DuplicateLabel => Ok((label, format!(in alloc; "{why}")?)),
-        Why::UnknownLabel => Ok((last, format!(in alloc; "{why}")?)),
+        Why::UnknownLabel => Ok((line.last(), format!(in alloc; "{why}")?)),
         Why::Load(LoadFault::Decode(fault, _)) => Ok((line.at(1).0, sentence_of(alloc, &fault)?)),
         Why::Load(fault @ LoadFault::FallsOffEnd(_)) => Ok((begin, sentence_of(alloc, &fault)?)),
-        Why::Load(fault) => Ok((last, sentence_of(alloc, &fault)?)),
+        Why::Load(fault) => Ok((line.last(), sentence_of(alloc, &fault)?)),
     }
 }
 

@@ -1,4 +1,4 @@
-//! A hint, and how it is shown.
+//! A hint, how it is shown, and the tables that it has its sentences from.
 
 ghost use Rattle.ocp_hints.specs.Columns.{IsWithin};
 
@@ -30,6 +30,10 @@ pub(crate) struct Shown<'a>(pub &'a [u8]);
 /// The column of what was unexpected in a line, and the sentence on it.
 pub(crate) type Mark = (usize, String);
 
+/// A table of texts. A row is a line: keys with `|` between them, a colon, a space, and a text. A
+/// key that ends in `..` is for all octets that begin with what precedes it.
+pub(crate) type Table = &'static [u8];
+
 /// What a call gives unless memory is refused.
 pub(crate) type Result<T> = std::result::Result<T, AllocError>;
 
@@ -41,6 +45,29 @@ pub(crate) fn front_of(octets: &[u8], most: usize) -> &[u8] {
 /// A mark with a sentence that no word of the line changes.
 pub(crate) fn mark_at(alloc: Global, column: usize, sentence: &[u8]) -> Result<Mark> {
     Ok((column, format!(in alloc; "{}", Shown(sentence))?))
+}
+
+/// The keys of a row, and its text.
+pub(crate) fn sides(row: &[u8]) -> (&[u8], &[u8]) {
+    match row.iter().position(|octet| *octet == b':') {
+        Some(colon) => (&row[..colon], row.get(colon + 2..).unwrap_or(&[])),
+        None => (row, &[]),
+    }
+}
+
+/// The text of the first row with a key for these octets.
+pub(crate) fn text_on(octets: &[u8], table: Table) -> Option<&'static [u8]> {
+    for row in table.split(|octet| *octet == b'\n') {
+        let (keys, text) = sides(row);
+        for key in keys.split(|octet| *octet == b'|') {
+            match key {
+                [front @ .., b'.', b'.'] if octets.starts_with(front) => return Some(text),
+                _ if octets == key => return Some(text),
+                _ => {}
+            }
+        }
+    }
+    None
 }
 
 impl<'a> Hint<'a> {

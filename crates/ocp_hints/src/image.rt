@@ -3,8 +3,7 @@
 ghost use Rattle.std.specs.Prelude.{IfSome};
 ghost use Rattle.ocp_hints.specs.Columns.{IsWithin};
 
-use crate::hint::{Hint, Mark, Result, front_of, mark_at};
-use crate::tables::{Table, text_on};
+use crate::hint::{Hint, Mark, Result, Table, front_of, mark_at, text_on};
 use bpf_decode::{DecodeFault, decode_at};
 use bpf_listing::{DisassembleFault, disassemble};
 use std::alloc::Global;
@@ -68,6 +67,23 @@ fn column_of_fault(code: &[u8], fault: DecodeFault) -> usize {
     SLOT_DIGITS
 }
 
+/// The slot at fault in an image, and the mark in its digits; None if no slot is, or if memory is
+/// refused.
+fn mark_of_image(alloc: Global, image: &[u8]) -> Option<(usize, Mark)> {
+    match disassemble(image, &mut Vec::new(alloc)) {
+        Ok(()) | Err(DisassembleFault::Memory) => None,
+        Err(DisassembleFault::Ragged) => {
+            let mark = mark_at(alloc, SLOT_DIGITS, b"an image is whole slots of 16 digits");
+            Some((image.len() / 8, mark.ok()?))
+        }
+        Err(DisassembleFault::Decode(fault, slot)) => {
+            let code = image.get(slot.saturating_mul(8)..).unwrap_or(&[]);
+            let sentence = sentence_of(alloc, &fault).ok()?;
+            Some((slot, (column_of_fault(code, fault), sentence)))
+        }
+    }
+}
+
 /// What was unexpected in the digits of an image, which spaces and newlines may follow; None if
 /// nothing was, or if memory is refused.
 pub fn hint_on_image<'a>(alloc: Global, text: &'a [u8]) -> Option<Hint<'a>>
@@ -81,18 +97,7 @@ pub fn hint_on_image<'a>(alloc: Global, text: &'a [u8]) -> Option<Hint<'a>>
     let Some(image) = octets_of(&mut room, digits).ok()? else {
         return Some(Hint::new(None, digits, mark_of_digits(alloc, digits).ok()?));
     };
-    let (slot, mark) = match disassemble(image, &mut Vec::new(alloc)) {
-        Ok(()) | Err(DisassembleFault::Memory) => return None,
-        Err(DisassembleFault::Ragged) => {
-            let sentence = b"an image is whole slots of 16 digits";
-            (image.len() / 8, mark_at(alloc, SLOT_DIGITS, sentence).ok()?)
-        }
-        Err(DisassembleFault::Decode(fault, slot)) => {
-            let code = image.get(slot.saturating_mul(8)..).unwrap_or(&[]);
-            let sentence = sentence_of(alloc, &fault).ok()?;
-            (slot, (column_of_fault(code, fault), sentence))
-        }
-    };
+    let (slot, mark) = mark_of_image(alloc, image)?;
     let begin = slot.saturating_mul(SLOT_DIGITS);
     let rest = digits.get(begin..).unwrap_or(&[]);
     let slots = if rest.starts_with(b"18") { 2 } else { 1 };

@@ -8,7 +8,6 @@ mod hint;
 mod image;
 mod line;
 mod script;
-mod tables;
 
 pub use assembly::hint_on_text;
 pub use hint::Hint;

@@ -1,8 +1,7 @@
 //! The words of a line, and where its reader refuses it: the words of the line replace those of an
 //! example, one after another, and the reader is asked each time.
 
-use crate::hint::{Result, front_of};
-use crate::tables::{Table, sides};
+use crate::hint::{Result, Table, front_of, sides};
 use bpf_assembler::Why;
 use bpf_text::{LineFault, Scan, next_token, read_line};
 use ocp_lines::{next_word, read_command};
@@ -40,21 +39,19 @@ pub(crate) enum Reader {
 /// that fit the example.
 pub(crate) type Fit = (&'static [u8], &'static [u8], usize);
 
-/// A line, cut into its words.
-#[derive(Drop)]
+/// A line with `head` before it, and the column of its first word.
+#[derive(Clone, Copy)]
 pub(crate) struct Line<'a> {
     pub alloc: Global,
-    reader: Reader,
-    text: &'a [u8],
-    /// Each word with the number of octets before it, and then the empty word. Octets that begin
-    /// no word are one, up to the end of the line.
-    words: Vec<(usize, &'a [u8])>,
+    pub reader: Reader,
+    pub head: &'a [u8],
+    pub text: &'a [u8],
+    pub begin: usize,
 }
 
 /// The line of this number, from 1; the empty line if there is none.
 pub(crate) fn line_at(text: &[u8], number: u64) -> &[u8] {
-    let mut line: &[u8] = &[];
-    let mut rest = text;
+    let (mut line, mut rest): (&[u8], &[u8]) = (&[], text);
     for _ in 0..number {
         if rest.is_empty() {
             return &[];
@@ -70,61 +67,60 @@ pub(crate) fn word_of(text: &[u8], count: usize) -> &[u8] {
     words.nth(count).unwrap_or(&[])
 }
 
-/// The first word of a text that begins with no blank, and what follows it; or the empty word.
-fn next_word_of(reader: Reader, text: &[u8]) -> (&[u8], &[u8]) {
-    match (reader, next_token(text)) {
-        (Reader::Console(_), _) => next_word(text).unwrap_or((&[], &[])),
-        (_, Scan::Found(token, rest)) => (token, rest),
-        (_, Scan::Bad) => (text, &[]),
-        (_, Scan::End) => (&[], &[]),
-    }
-}
-
 impl<'a> Line<'a> {
-    /// A line, cut into words from this column on.
-    pub fn new(alloc: Global, reader: Reader, text: &'a [u8], begin: usize) -> Result<Line<'a>> {
-        let mut words = Vec::new(alloc);
-        let mut rest = text.get(begin..).unwrap_or(&[]);
-        for _ in 0..=text.len() {
-            let blanks = rest.iter().position(|octet| !matches!(octet, b' ' | b'\t'));
-            rest = &rest[blanks.unwrap_or(rest.len())..];
-            let (word, after) = next_word_of(reader, rest);
-            words.push((text.len().saturating_sub(rest.len()), word))?;
-            if word.is_empty() {
-                break;
-            }
-            rest = after;
-        }
-        Ok(Line {
+    /// A whole line.
+    pub fn new(alloc: Global, reader: Reader, text: &'a [u8]) -> Line<'a> {
+        Line {
             alloc,
             reader,
+            head: b"",
             text,
-            words,
-        })
+            begin: 0,
+        }
     }
 
-    /// The number of octets before the word with this many others before it, and the word; after
-    /// the last one the empty word.
-    pub fn at(&self, count: usize) -> (usize, &'a [u8]) {
-        let word = self.words.get(count).or(self.words.last());
-        word.copied().unwrap_or((0, &[]))
+    /// The number of octets before the first word from this column on, and the word, which is
+    /// empty after the last one. Octets that begin no word are one, up to the end of the line.
+    fn first_from(self, column: usize) -> (usize, &'a [u8]) {
+        let rest = self.text.get(column..).unwrap_or(&[]);
+        let blanks = rest.iter().position(|octet| !matches!(octet, b' ' | b'\t'));
+        let rest = &rest[blanks.unwrap_or(rest.len())..];
+        let word: &[u8] = match (self.reader, next_token(rest)) {
+            (Reader::Console(_), _) => next_word(rest).map_or(&[], |(word, _)| word),
+            (_, Scan::Found(token, _)) => token,
+            (_, Scan::Bad) => rest,
+            (_, Scan::End) => &[],
+        };
+        (self.text.len().saturating_sub(rest.len()), word)
     }
 
-    /// The number of words before the last one.
-    pub fn last(&self) -> usize {
-        self.words.len().saturating_sub(2)
+    /// In the same way, the word with this many others before it.
+    pub fn at(self, count: usize) -> (usize, &'a [u8]) {
+        let (mut column, mut word) = self.first_from(self.begin);
+        for _ in 0..count {
+            (column, word) = self.first_from(column.saturating_add(word.len()));
+        }
+        (column, word)
     }
 
-    /// Whether its reader refuses this word after this many of the line's, and before those of an
-    /// example, which begins after the first word. An assembler with a Syntax fault takes numbers
-    /// out of their ranges, but not with the first word alone.
-    pub fn refuses(&self, count: usize, word: &[u8], example: &[u8]) -> Result<bool> {
-        let (column, _) = self.at(count);
+    /// The number of octets before the last word.
+    pub fn last(self) -> usize {
+        for count in 1..=self.text.len() {
+            if self.at(count).1.is_empty() {
+                return self.at(count - 1).0;
+            }
+        }
+        self.at(0).0
+    }
+
+    /// Whether its reader refuses a word at a column, after this many of the line's, and before
+    /// those of an example, which begins after the first word. An assembler with a Syntax fault
+    /// takes numbers out of their ranges, but not with the first word alone.
+    pub fn refuses(self, count: usize, at: (usize, &'a [u8]), example: &'a [u8]) -> Result<bool> {
+        let (column, word) = at;
         let mut rest = example.splitn(count.saturating_add(1), |octet| *octet == b' ');
-        let mut line = Vec::from_slice(self.alloc, front_of(self.text, column))?;
-        line.extend_from_slice(word)?;
-        line.push(b' ')?;
-        line.extend_from_slice(rest.nth(count).unwrap_or(&[]))?;
+        let (front, rest) = (front_of(self.text, column), rest.nth(count).unwrap_or(&[]));
+        let line = [self.head, front, word, b" ", rest].concat(self.alloc)?;
         match self.reader {
             Reader::Console(profile) => {
                 Ok(read_command(&mut Vec::new(self.alloc), profile, &line)?.is_none())
@@ -138,18 +134,19 @@ impl<'a> Line<'a> {
 
     /// The number of words before the first with which its reader refuses the line, if an example
     /// goes on after it.
-    pub fn count_of_words(&self, example: &[u8]) -> Result<usize> {
-        for (count, (_, word)) in self.words.iter().enumerate() {
-            if word.is_empty() || self.refuses(count, word, example)? {
+    pub fn count_of_words(self, example: &[u8]) -> Result<usize> {
+        for count in 0..self.text.len() {
+            let at = self.at(count);
+            if at.1.is_empty() || self.refuses(count, at, example)? {
                 return Ok(count);
             }
         }
-        Ok(self.words.len())
+        Ok(self.text.len())
     }
 
     /// The form that its words fit best, and of several the first. If its reader takes no example
     /// after its first word, the form is empty, and fits no word.
-    pub fn best_form(&self, forms: Table) -> Result<Fit> {
+    pub fn best_form(self, forms: Table) -> Result<Fit> {
         let mut best: Fit = (&[], &[], 0);
         for row in forms.split(|octet| *octet == b'\n') {
             let (form, examples) = sides(row);

@@ -3,10 +3,9 @@
 ghost use Rattle.std.specs.Prelude.{IfSome};
 ghost use Rattle.ocp_hints.specs.Columns.{IsWithin};
 
-use crate::hint::{Hint, Mark, Result, SHOWN_BEFORE, Shown, front_of, mark_at};
+use crate::hint::{Hint, Mark, Result, SHOWN_BEFORE, Shown, Table, front_of, mark_at, text_on};
 use crate::image::{ODD, SLOT_DIGITS};
 use crate::line::{self, Fit, Line, MARKS, Reader, line_at, word_of};
-use crate::tables::{Table, text_on};
 use ocp_ports::{ConsoleFault, MAX_LINE_OCTETS};
 use ocp_profile::Profile;
 use std::alloc::Global;
@@ -55,7 +54,7 @@ const NO_COMMAND: &[u8] = b"a line begins with send, up, time, step, round, view
                             unbreak, trace, pool, put, journal, drain, work";
 
 /// The sentence for a word that is for no part of a form, or in place of its octets.
-fn sentence_on_rest(form: &[u8], is_octets: bool, word: &[u8]) -> &'static [u8] {
+fn sentence_on_rest(verb: &[u8], form: &[u8], is_octets: bool, word: &[u8]) -> &'static [u8] {
     let are_digits = word.iter().all(|octet| octet.is_ascii_hexdigit());
     match word {
         [b'0', b'x' | b'X', ..] if is_octets => b"hexadecimal digits have no 0x in front here",
@@ -63,44 +62,46 @@ fn sentence_on_rest(form: &[u8], is_octets: bool, word: &[u8]) -> &'static [u8] 
         _ if is_octets && !are_digits => b"octets are hexadecimal digits only",
         _ if is_octets && word.len() % 2 == 0 => b"arguments have at most 256 octets",
         [b'#' | b';' | b'/', ..] => b"a comment is a line of its own",
-        _ if form.ends_with(b"activate <id> [<hex>]") => BUDGET,
+        _ if matches!((verb, form), (b"activate", b" <id> [<hex>]")) => BUDGET,
         _ if is_octets => ODD,
         _ => b"nothing more may stand here",
     }
 }
 
 /// What was unexpected in a line of this form after a verb. Both are shown after `head`.
-fn mark_of_form(line: &Line<'_>, head: &str, verb: &[u8], fit: Fit) -> Result<Mark> {
-    let (form, example, _) = fit;
-    let form = format!(in line.alloc; "{}{}", Shown(verb), Shown(form))?;
+fn mark_of_form(line: Line<'_>, head: &str, verb: &[u8], fit: Fit) -> Result<Mark> {
+    let (alloc, (form, example, _)) = (line.alloc, fit);
     let count = line.count_of_words(example)?;
-    let ((column, word), part) = (line.at(count), word_of(form.as_bytes(), count));
-    let takes_zero = !line.refuses(count, b"0", example)?;
-    let (shown, found) = (Shown(part), Shown(front_of(word, SHOWN_BEFORE)));
+    let ((column, word), part) = (line.at(count), word_of(form, count));
+    let takes_zero = !line.refuses(count, (column, b"0"), example)?;
     let digits = match word {
         [b'0', b'x' | b'X', ..] => ", in decimal digits",
         _ => "",
     };
-    let mut text = format!(in line.alloc; "{head}{form}: ")?;
-    match (text_on(part, PARTS), part) {
-        _ if word.is_empty() => write!(text, "{shown} is missing")?,
-        _ if word.eq_ignore_ascii_case(part) => write!(text, "lines are in lower case: {shown}")?,
-        (Some(what), _) => write!(text, "{}, found {found}", Shown(what))?,
+    let rest = Shown(sentence_on_rest(verb, form, part.starts_with(b"["), word));
+    let (verb, form, found) = (Shown(verb), Shown(form), front_of(word, SHOWN_BEFORE));
+    let (most, found) = (
+        Shown(word_of(example, count.saturating_sub(1))),
+        Shown(found),
+    );
+    let sentence = match (text_on(part, PARTS), part) {
+        _ if word.is_empty() => format!(in alloc; "{} is missing", Shown(part)),
+        _ if count == 0 => format!(in alloc; "lines are in lower case: {verb}"),
+        (Some(what), _) => format!(in alloc; "{}, found {found}", Shown(what)),
         (None, [b'<', name @ .., b'>']) => {
             let (name, least) = (Shown(name), u8::from(!takes_zero));
-            let most = Shown(word_of(example, count.saturating_sub(1)));
-            write!(text, "{name} is {least} to {most}{digits}, found {found}")?
+            format!(in alloc; "{name} is {least} to {most}{digits}, found {found}")
         }
         // The part `..` is for more numbers.
         (None, _) if takes_zero => {
-            write!(text, "number is 0 to {}{digits}, found {found}", u64::MAX)?
+            format!(in alloc; "number is 0 to {}{digits}, found {found}", u64::MAX)
         }
-        (None, _) => {
-            let rest = sentence_on_rest(form.as_bytes(), part.starts_with(b"["), word);
-            write!(text, "{}", Shown(rest))?
-        }
-    }
-    Ok((column, text))
+        (None, _) => format!(in alloc; "{rest}"),
+    };
+    Ok((
+        column,
+        format!(in alloc; "{head}{verb}{form}: {}", sentence?)?,
+    ))
 }
 
 /// The sentence for a word that begins no line.
@@ -115,37 +116,35 @@ fn sentence_on_stray(word: &[u8]) -> &'static [u8] {
     }
 }
 
-/// What was unexpected in the words of a line. Its form is that of the line in lower case, and if
-/// `send` and the flags are missing, that of the line with them.
-fn mark_of_words(alloc: Global, reader: Reader, text: &[u8]) -> Result<Mark> {
-    let line = Line::new(alloc, reader, text, 0)?;
-    let lower = text.to_ascii_lowercase(alloc)?;
-    let (head, begin) = match (line.at(0), line.at(2)) {
-        ((_, b"send"), (begin, _)) => ("", begin),
-        _ => ("send 0 ", "send 0 ".len()),
+/// What was unexpected in the words of a line. Its text in lower case decides the form; if `send`
+/// and the flags are missing, the form is that of the line with them.
+fn mark_of_words(line: Line<'_>, text: &[u8]) -> Result<Mark> {
+    let (lower, head) = (Line { text, ..line }, b"send 0 ".as_slice());
+    let request = match (line.at(0), line.at(2)) {
+        ((_, b"send"), (begin, _)) => Line { begin, ..lower },
+        _ => Line { head, ..lower },
     };
-    let request = format!(in alloc; "{head}{}", Shown(&lower))?;
-    let request = Line::new(alloc, reader, request.as_bytes(), begin)?;
-    let lower = Line::new(alloc, reader, &lower, 0)?;
     let ((column, word), (_, verb)) = (lower.at(0), request.at(0));
     match (request.best_form(REQUESTS)?, lower.best_form(FORMS)?) {
-        (fit @ (_, _, 1..), _) if head.is_empty() => {
-            let line = Line::new(alloc, reader, text, begin)?;
-            mark_of_form(&line, "send <flags> ", verb, fit)
+        (fit @ (_, _, 1..), _) if request.head.is_empty() => {
+            let begin = request.begin;
+            mark_of_form(Line { begin, ..line }, "send <flags> ", verb, fit)
         }
-        (_, fit @ (_, _, 1..)) => mark_of_form(&line, "", word, fit),
+        (_, fit @ (_, _, 1..)) => mark_of_form(line, "", word, fit),
         ((form, _, 1..), _) => {
             let (verb, form) = (Shown(verb), Shown(form));
-            Ok((column, format!(in alloc; "{NO_FLAGS} {verb}{form}")?))
+            Ok((column, format!(in line.alloc; "{NO_FLAGS} {verb}{form}")?))
         }
-        _ => mark_at(alloc, column, sentence_on_stray(word)),
+        _ => mark_at(line.alloc, column, sentence_on_stray(word)),
     }
 }
 
 /// What was unexpected in a line under the profile.
 fn mark_of_line(alloc: Global, profile: Profile, text: &[u8]) -> Result<Mark> {
     let Some(column) = text.iter().position(|octet| !matches!(octet, b' '..=b'~')) else {
-        return mark_of_words(alloc, Reader::Console(profile), text);
+        let lower = text.to_ascii_lowercase(alloc)?;
+        let line = Line::new(alloc, Reader::Console(profile), text);
+        return mark_of_words(line, &lower);
     };
     let sentence = text_on(&text[column..], MARKS).unwrap_or(b"this is no plain ASCII");
     mark_at(alloc, column, sentence)
