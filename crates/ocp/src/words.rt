@@ -1,14 +1,10 @@
 //! The words of the command line.
 
-ghost use Rattle.std.specs.Prelude.{◌≡◌, ◌≢◌, [], IsOk, IfOk, map, string_bytes};
 ghost use Rattle.std.specs.Process.{exit_status};
-ghost use Rattle.clap.specs.Words.{subcommand_of};
-ghost use Rattle.ocp_words.specs.Jobs.{IsJob, HasDefaults};
-ghost use Rattle.ocp_words.specs.Words.{ocp};
 ghost use Rattle.ocp.specs.Status.{IsWordsStatus};
 
 use crate::status::machine_fault;
-use ocp_words::{Job, WordsFault, not_utf8, read_words};
+use ocp_words::{Job, WordsFault, not_utf8, read_given};
 use std::alloc::Global;
 use std::process::ExitCode;
 use std::rt::Env;
@@ -23,20 +19,6 @@ const WANTED_WORDS: &str = "The commands are run, asm, list and check. run takes
                             --profile 1 or 2, check --pool 1 to 256 and --profile 1 or 2; numbers \
                             are in decimal digits.";
 
-/// The job that given words ask for, as `read_words` reads them.
-fn job_of(alloc: Global, given: &[String]) -> Result<Job, WordsFault>
-    ensures job { IfOk result (λ job. given.now ≢ [] →
-        IsJob (subcommand_of ocp (map string_bytes given.now)) job) }
-    ensures none { given.now ≡ [] → IfOk result HasDefaults }
-    ensures no_fault { given.now ≡ [] → IsOk result }
-{
-    let mut words = Vec::new(alloc);
-    for word in given {
-        words.push(word.as_str()).map_err(|_| WordsFault::Memory)?;
-    }
-    read_words(alloc, words.as_slice())
-}
-
 /// The job that the words after the program's name ask for.
 pub fn job_of_words<R: Env + AllocGlobal>(rt: &R) -> Result<Job, WordsFault> {
     let alloc = rt.alloc();
@@ -48,7 +30,7 @@ pub fn job_of_words<R: Env + AllocGlobal>(rt: &R) -> Result<Job, WordsFault> {
         Err(error) if error.kind() == io::ErrorKind::OutOfMemory => return Err(WordsFault::Memory),
         Err(_) => return Err(not_utf8(alloc)),
     };
-    job_of(alloc, &given)
+    read_given(alloc, &given)
 }
 
 /// Prints the text that the words ask for, or on standard error what is wrong with them, and

@@ -1,6 +1,6 @@
 //! Reading the words of a command line.
 
-ghost use Rattle.std.specs.Prelude.{◌≡◌, IfOk, IfSome, IsOk, [], map, ◌≢◌};
+ghost use Rattle.std.specs.Prelude.{◌≡◌, IfOk, IfSome, IsOk, [], map, string_bytes, ◌≢◌};
 ghost use Rattle.clap.specs.Words.{app_of, subcommand_of, subcommand_rows_of, rows_of, found_of};
 ghost use Rattle.clap.specs.declared.error.kind.ErrorKind.TheVariants.{InvalidValue};
 ghost use Rattle.ocp_words.specs.Words.{ocp};
@@ -122,6 +122,20 @@ pub fn read_words<'a>(alloc: Global, words: &'a [&'a str]) -> Result<Job, WordsF
         Ok(mut command) => job_of_words(&mut command, words),
         Err(_) => Err(WordsFault::Memory),
     }
+}
+
+/// The job that given words ask for, as `read_words` reads them.
+pub fn read_given(alloc: Global, given: &[String]) -> Result<Job, WordsFault>
+    ensures job { IfOk result (λ job. given.now ≢ [] →
+        IsJob (subcommand_of ocp (map string_bytes given.now)) job) }
+    ensures none { given.now ≡ [] → IfOk result HasDefaults }
+    ensures no_fault { given.now ≡ [] → IsOk result }
+{
+    let mut words = Vec::new(alloc);
+    for word in given {
+        words.push(word.as_str()).map_err(|_| WordsFault::Memory)?;
+    }
+    read_words(alloc, words.as_slice())
 }
 
 /// The fault of words that are no UTF-8, which `read_words` can't be given, as `clap` words it.

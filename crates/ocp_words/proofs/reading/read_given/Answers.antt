@@ -4,7 +4,7 @@ use Rattle.std.proofs.lemmas.List.{take_all}
 use Rattle.clap.specs.Words.{subcommand_of}
 use Rattle.ocp_words.specs.Jobs.{IsJob}
 use Rattle.ocp_words.specs.Words.{ocp}
-use Rattle.ocp.proofs.words.job_of.Goals as goal
+use Rattle.ocp_words.proofs.reading.read_given.Goals as goal
 
 -- lists of equal texts are empty together
 some_of : {A B : Type 0} (f : A → List ℕ) (g : B → List ℕ) (xs : List A) (ys : List B) → map f xs ≡ map g ys → ys ≢ [] → xs ≢ []
