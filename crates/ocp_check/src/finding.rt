@@ -288,6 +288,17 @@ impl<A: Allocator> Search<A> {
         }
     }
 
+    /// Passes over the slots until nothing changes.
+    fn settle(&mut self, program: &Program<A>, slots: u16) {
+        for pass in 0..PASSES {
+            self.pass = pass;
+            self.sweep(program, slots);
+            if !self.has_changed {
+                break;
+            }
+        }
+    }
+
     /// One pass over the slots.
     fn sweep(&mut self, program: &Program<A>, slots: u16) {
         self.has_changed = false;
@@ -307,6 +318,28 @@ fn add_landmark<A: Allocator>(landmarks: &mut Vec<u64, A>, number: u64) -> Resul
     Ok(())
 }
 
+/// Adds the number with which the line at a slot compares a register, if it does, and the number's
+/// neighbours.
+fn add_compared<A: Allocator>(
+    landmarks: &mut Vec<u64, A>,
+    program: &Program<A>,
+    slot: u16,
+) -> Result<(), AllocError> {
+    if let Some(
+        Line::JumpIf {
+            operand: Operand::Immediate(imm),
+            ..
+        },
+    ) = program.line_at(slot)
+    {
+        let number = i64::from(imm).cast_unsigned();
+        add_landmark(landmarks, number.wrapping_sub(1))?;
+        add_landmark(landmarks, number)?;
+        add_landmark(landmarks, number.wrapping_add(1))?;
+    }
+    Ok(())
+}
+
 /// The numbers to which ranges are widened: the ends of the regions, and those with which the image
 /// compares registers, with their neighbours.
 fn landmarks_of<A: Allocator>(
@@ -319,18 +352,7 @@ fn landmarks_of<A: Allocator>(
         add_landmark(&mut landmarks, number)?;
     }
     for slot in 0..slots {
-        if let Some(
-            Line::JumpIf {
-                operand: Operand::Immediate(imm),
-                ..
-            },
-        ) = program.line_at(slot)
-        {
-            let number = i64::from(imm).cast_unsigned();
-            add_landmark(&mut landmarks, number.wrapping_sub(1))?;
-            add_landmark(&mut landmarks, number)?;
-            add_landmark(&mut landmarks, number.wrapping_add(1))?;
-        }
+        add_compared(&mut landmarks, program, slot)?;
     }
     Ok(landmarks)
 }
@@ -406,6 +428,28 @@ fn narrower<A: Allocator + Copy>(
     Ok(search.nodes)
 }
 
+/// Narrows a certificate, if one that is narrower keeps no fewer slots. Whether it did.
+fn narrow<A: Allocator + Copy>(
+    alloc: A,
+    program: &Program<A>,
+    nodes: &mut Vec<Option<Node>, A>,
+    end: Option<Option<Range>>,
+    spared: u64,
+) -> Result<bool, AllocError> {
+    let least = unkept(program, nodes);
+    if least == 0 {
+        return Ok(false);
+    }
+    let mut next = narrower(alloc, program, nodes, end, spared)?;
+    promise_to(&mut next, end, spared);
+    take_depths(&mut next, nodes);
+    if unkept(program, &next) > least {
+        return Ok(false);
+    }
+    *nodes = next;
+    Ok(true)
+}
+
 /// What is known at each slot that may be reached: a certificate, if the search came to its end.
 pub(crate) fn find<A: Allocator + Copy>(
     alloc: A,
@@ -414,28 +458,14 @@ pub(crate) fn find<A: Allocator + Copy>(
     let slots = program.slots();
     let landmarks = landmarks_of(alloc, program, slots as u16)?;
     let mut search = search_from(alloc, slots, landmarks, None, 0)?;
-    for pass in 0..PASSES {
-        search.pass = pass;
-        search.sweep(program, slots as u16);
-        if !search.has_changed {
-            break;
-        }
-    }
+    search.settle(program, slots as u16);
     let (end, spared) = (search.end, search.spared);
     let mut nodes = search.nodes;
     promise_to(&mut nodes, end, spared);
     for _ in 0..NARROW_PASSES {
-        let least = unkept(program, &nodes);
-        if least == 0 {
+        if !narrow(alloc, program, &mut nodes, end, spared)? {
             break;
         }
-        let mut next = narrower(alloc, program, &nodes, end, spared)?;
-        promise_to(&mut next, end, spared);
-        take_depths(&mut next, &nodes);
-        if unkept(program, &next) > least {
-            break;
-        }
-        nodes = next;
     }
     Ok(nodes)
 }

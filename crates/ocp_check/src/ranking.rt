@@ -467,6 +467,26 @@ fn shortest(loops: &[Loop], turn: u32) -> Option<usize> {
     found
 }
 
+/// Has counters count in loops, in each turn the shortest ones first.
+fn count_in_loops<A: Allocator>(
+    ranking: &mut Ranking<A>,
+    program: &Program<A>,
+    nodes: &[Option<Node>],
+    loops: &mut [Loop],
+) -> Result<(), AllocError> {
+    for turn in 0..TURNS {
+        for _ in 0..LOOPS {
+            if let Some(k) = shortest(loops, turn) {
+                if let Some(one) = loops.get_mut(k) {
+                    one.tries = turn + 1;
+                    one.is_done = ranking.count(program, nodes, one.span)?;
+                }
+            }
+        }
+    }
+    Ok(())
+}
+
 /// Ranks of the slots, if the search came to its end: at least how many instructions may follow
 /// before the step or the local call ends.
 pub(crate) fn find_ranks<A: Allocator + Copy>(
@@ -483,16 +503,7 @@ pub(crate) fn find_ranks<A: Allocator + Copy>(
         counters: Vec::new(alloc),
     };
     let mut loops = find_loops(alloc, program)?;
-    for turn in 0..TURNS {
-        for _ in 0..LOOPS {
-            if let Some(k) = shortest(&loops, turn) {
-                if let Some(one) = loops.get_mut(k) {
-                    one.tries = turn + 1;
-                    one.is_done = ranking.count(program, nodes, one.span)?;
-                }
-            }
-        }
-    }
+    count_in_loops(&mut ranking, program, nodes, &mut loops)?;
     ranking.settle(program, nodes, None, PASSES);
     Ok(ranking)
 }
