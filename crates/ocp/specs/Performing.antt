@@ -11,7 +11,7 @@ use Rattle.ocp_words.specs.declared.job.Job.{Job}
 use Rattle.ocp_words.specs.declared.job.Job.TheVariants.{Assemble, Check, List as Listing, Run}
 use Rattle.ocp_words.specs.declared.job.Settings.{Settings}
 use Rattle.ocp_console.specs.Crew.{CrewAnswers}
-use Rattle.ocp_console.specs.Reading.{IsWithin}
+use Rattle.ocp_lines.specs.Reading.{IsWithin}
 use Rattle.ocp_console.specs.Script.{IsWorkless, Prints, PrintsBy, WritesScript, transcript}
 use Rattle.ocp.specs.Status.{status_of}
 

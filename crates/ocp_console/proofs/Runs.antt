@@ -16,7 +16,7 @@ use Rattle.ocp_ports.specs.Faults.{crew_fault}
 use Rattle.ocp_console.specs.Crew.{CrewAnswers, HasDone, HasRefused}
 use Rattle.ocp_console.specs.Mirror.Replies.{works_of, Answers, Refuses}
 use Rattle.ocp_console.specs.Script.{Step, Ends, Goes, step_of, IsFailure, FaultLine, AtStep, Writes}
-use Rattle.ocp_console.specs.Mirror.Lines.{Begins, HasFault}
+use Rattle.ocp_lines.specs.Lines.{Begins, HasFault}
 
 -- ---- the first line of a run
 

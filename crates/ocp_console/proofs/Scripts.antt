@@ -7,9 +7,9 @@ use Rattle.ocp_ports.specs.declared.fault.ConsoleFault.{ConsoleFault}
 use Rattle.ocp_console.specs.Answering.{State}
 use Rattle.ocp_console.specs.Crew.{CrewAnswers}
 use Rattle.ocp_console.specs.Script.{Writing, Writes, PrintsBy}
-use Rattle.ocp_console.specs.Mirror.Lines.{HasRead, HasNext}
+use Rattle.ocp_lines.specs.Lines.{HasRead, HasNext}
 use Rattle.ocp_console.specs.Mirror.Replies.{Refuses}
-use Rattle.ocp_console.proofs.Taking.{line_taken, not_both}
+use Rattle.ocp_lines.proofs.Taking.{line_taken, not_both}
 use Rattle.ocp_console.proofs.Runs.{no_lines}
 
 -- the lines that were read are answered, and those that follow are written by the rest of the run

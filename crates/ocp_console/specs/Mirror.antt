@@ -1,3 +1,2 @@
 -- A run line by line, for its proofs.
-pub mod Lines
 pub mod Replies

@@ -5,7 +5,6 @@
 mod console;
 mod debugging;
 pub mod laws;
-mod lines;
 mod script;
 mod sending;
 mod text;

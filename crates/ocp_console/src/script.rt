@@ -7,12 +7,12 @@ ghost use Rattle.ocp_ports.specs.Faults.{fault_line};
 ghost use Rattle.ocp_console.specs.Mirror.Replies.{Refuses};
 ghost use Rattle.ocp_ports.specs.Outcomes.{TellsReads, TellsWrites};
 ghost use Rattle.ocp_ports.specs.Reading.{LeavesWhile};
-ghost use Rattle.ocp_console.specs.Reading.{IsWithin};
+ghost use Rattle.ocp_lines.specs.Reading.{IsWithin};
 ghost use Rattle.ocp_console.specs.Script.{IsWorkless, Prints, PrintsBy, WritesScript, transcript};
 
 use crate::console::Console;
-use crate::lines::Lines;
 use ocp_core::Engine;
+use ocp_lines::Lines;
 use ocp_ports::{ConsoleFault, Crew, Sink, Source, error_text, write_whole};
 use ocp_words::Settings;
 use std::alloc::Allocator;

@@ -3,3 +3,5 @@ pub mod Hexadecimals
 pub mod NumberLists
 pub mod Numbers
 pub mod WordLemmas
+pub mod Cutting
+pub mod Taking

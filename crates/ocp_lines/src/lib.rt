@@ -1,8 +1,10 @@
-//! The lines of a console script: the octets of a line in, its command out.
+//! The lines of a console script: a source in, its lines out, and the octets of a line in, its
+//! command out.
 #![tactic(auto)]
 
 mod command;
 mod help;
+mod lines;
 mod reading;
 mod verbs;
 mod words;
@@ -12,5 +14,6 @@ pub use command::{
     MAX_WORKERS, Shift,
 };
 pub use help::SCRIPT_HELP;
+pub use lines::Lines;
 pub use reading::read_command;
 pub use words::{length_before, next_word};

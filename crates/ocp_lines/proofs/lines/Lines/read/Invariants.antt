@@ -2,9 +2,9 @@ use Rattle.std.proofs.Common.{◌≡◌, ◌≢◌, ◌<◌, ◌≤◌, ◌+◌,
 use Rattle.std.specs.Vec.{vec_len}
 use Rattle.std.specs.Io.KnownBytes.{Consumes}
 use Rattle.ocp_ports.specs.Reading.{LeavesWhile}
-use Rattle.ocp_console.specs.Reading.{IsWithin}
-use Rattle.ocp_console.specs.Mirror.Lines.{is_one_line, octets_left, HasRead}
-use Rattle.ocp_console.proofs.lines.Lines.read.Given as goal
+use Rattle.ocp_lines.specs.Reading.{IsWithin}
+use Rattle.ocp_lines.specs.Lines.{is_one_line, octets_left, HasRead}
+use Rattle.ocp_lines.proofs.lines.Lines.read.Given as goal
 
 abbrev pub invariant-loop-reader : goal.invariant-loop-reader
 invariant-loop-reader g l = record {

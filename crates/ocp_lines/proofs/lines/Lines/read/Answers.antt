@@ -3,10 +3,10 @@ use Rattle.std.specs.Vec.{vec_len}
 use Rattle.std.specs.Str.Lines.{strip_carriage_return}
 use Rattle.std.proofs.lemmas.Bool.{eqb-false}
 use Rattle.std.proofs.KnownBytes.{Consumes-trans}
-use Rattle.ocp_console.specs.Mirror.Lines.{octets_left, text_at, octets_of_line}
-use Rattle.ocp_console.proofs.Cutting.{whole_line}
-use Rattle.ocp_console.proofs.Taking.{ended_next, open_next, read_within, few_read}
-use Rattle.ocp_console.proofs.lines.Lines.read.Goals as goal
+use Rattle.ocp_lines.specs.Lines.{octets_left, text_at, octets_of_line}
+use Rattle.ocp_lines.proofs.Cutting.{whole_line}
+use Rattle.ocp_lines.proofs.Taking.{ended_next, open_next, read_within, few_read}
+use Rattle.ocp_lines.proofs.lines.Lines.read.Goals as goal
 
 pub returns-then-branch-clause-lines : goal.returns-then-branch-clause-lines
 returns-then-branch-clause-lines g c =

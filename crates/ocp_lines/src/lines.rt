@@ -4,14 +4,14 @@ ghost use Rattle.std.specs.Prelude.{◌≡◌, ◌≢◌, ◌<◌, ◌≤◌, �
 ghost use Rattle.std.specs.Io.KnownBytes.{IsAtEnd};
 ghost use Rattle.ocp_ports.specs.declared.fault.TheConstants.{MAX_LINES, MAX_LINE_OCTETS};
 
-use ocp_lines::length_before;
+use crate::words::length_before;
 use ocp_ports::{CHUNK, ConsoleFault, MAX_LINE_OCTETS, MAX_LINES, Source};
 use std::alloc::Allocator;
 use text_lines::without_carriage_return;
 
-/// A reader of lines. It keeps what a read gave beyond the last line.
+/// A reader of the lines of a source. It keeps what a read gave beyond the last line.
 #[derive(Drop)]
-pub(crate) struct Lines<A: Allocator> {
+pub struct Lines<A: Allocator> {
     chunk: [u8; CHUNK],
     /// Where the octets of the chunk begin that no line has yet, and where they end.
     start: usize,
@@ -36,12 +36,13 @@ pub(crate) struct Lines<A: Allocator> {
 }
 
 impl<A: Allocator> Lines<A> {
-    ghost use Rattle.ocp_console.specs.Mirror.Lines.{is_one_line, octets_left, text_in, HasFault, Finds, ReadsWithin, Counts};
+    ghost use Rattle.ocp_lines.specs.Lines.{is_one_line, octets_left, text_in, lines_read, is_at_end, HasFault, Finds, ReadsWithin, Counts};
 
+    /// A reader that has read nothing yet.
     pub fn new(alloc: A) -> Lines<A>
         ensures held { octets_left result ≡ [] }
-        ensures number { result.number ≡ 0 }
-        ensures is_over { result.is_over ≡ false }
+        ensures number { lines_read result ≡ 0 }
+        ensures is_over { is_at_end result ≡ false }
     {
         Lines {
             chunk: [0; CHUNK],
@@ -70,14 +71,17 @@ impl<A: Allocator> Lines<A> {
         without_carriage_return(octets)
     }
 
-    /// Finds the next line, and returns its number, or none if there is no line left.
+    /// Finds the next line, and returns its number from 1, or none if there is no line left. Each
+    /// call has the same source. The faults, in this order: `TooManyLines` (over 100,000),
+    /// `LineTooLong` (over 40,000 octets, a carriage return included and the newline not), `Memory`
+    /// of a line that more than one read gave, and `Read`.
     pub fn next<R: Source>(&mut self, reader: &mut R) -> Result<Option<u32>, ConsoleFault>
         requires device { R.failed_reads reader.old < 2 ^ 64 - 1 }
-        requires end { self.old.is_over ≡ true → IsAtEnd (R.remaining reader.old) }
+        requires end { is_at_end self.old ≡ true → IsAtEnd (R.remaining reader.old) }
         ensures lines { Finds (R.remaining reader.old) (R.remaining reader.new)
             self.old self.new result }
         ensures end { IfOk result (λ _.
-            self.new.is_over ≡ true → IsAtEnd (R.remaining reader.new)) }
+            is_at_end self.new ≡ true → IsAtEnd (R.remaining reader.new)) }
         ensures reads { ReadsWithin (R.remaining reader.old) (R.remaining reader.new) self.old }
         ensures count { Counts ConsoleFault.Read
             (R.failed_reads reader.old) (R.failed_reads reader.new) result }
@@ -137,11 +141,11 @@ impl<A: Allocator> Lines<A> {
     /// The same if no newline is held.
     fn read<R: Source>(&mut self, reader: &mut R) -> Result<Option<u32>, ConsoleFault>
         requires device { R.failed_reads reader.old < 2 ^ 64 - 1 }
-        requires end { self.old.is_over ≡ true → IsAtEnd (R.remaining reader.old) }
+        requires end { is_at_end self.old ≡ true → IsAtEnd (R.remaining reader.old) }
         ensures lines { Finds (R.remaining reader.old) (R.remaining reader.new)
             self.old self.new result }
         ensures end { IfOk result (λ _.
-            self.new.is_over ≡ true → IsAtEnd (R.remaining reader.new)) }
+            is_at_end self.new ≡ true → IsAtEnd (R.remaining reader.new)) }
         ensures reads { ReadsWithin (R.remaining reader.old) (R.remaining reader.new) self.old }
         ensures count { Counts ConsoleFault.Read
             (R.failed_reads reader.old) (R.failed_reads reader.new) result }

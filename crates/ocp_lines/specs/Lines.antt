@@ -1,4 +1,4 @@
--- The lines of a script, as their reader takes them.
+-- The lines of a source, as their reader takes them.
 use Rattle.std.specs.Prelude.{◌≡◌, ◌<◌, ◌≤◌, ◌+◌, ◌-◌, ◌↔◌, ℕ, Bool, true, false, List, [], ◌∷◌, ◌++◌, length, take, drop, Option, MatchOption, Result, MatchResult}
 use Rattle.std.specs.Io.KnownBytes.{Consumes, IsAtEnd}
 use Rattle.std.specs.Str.Lines.{strip_carriage_return}
@@ -8,8 +8,16 @@ use Rattle.ocp_ports.specs.declared.fault.ConsoleFault.{ConsoleFault}
 use Rattle.ocp_ports.specs.declared.fault.ConsoleFault.TheVariants as faults
 use Rattle.ocp_ports.specs.declared.fault.TheConstants.{MAX_LINES, MAX_LINE_OCTETS}
 use Rattle.ocp_ports.specs.Reading.{LeavesWhile}
-use Rattle.ocp_console.specs.Reading.{AreShort, IsWithin}
-use Rattle.ocp_console.specs.declared.lines.Lines.{Lines}
+use Rattle.ocp_lines.specs.Reading.{AreShort, IsWithin}
+use Rattle.ocp_lines.specs.declared.lines.Lines.{Lines}
+
+-- the number of the last line
+abbrev pub lines_read : {A : Type 0} → Lines A → ℕ
+lines_read s = s.number
+
+-- the source has no more octets
+abbrev pub is_at_end : {A : Type 0} → Lines A → Bool
+is_at_end s = s.is_over
 
 -- a line so far: it has no newline
 abbrev pub is_one_line : List ℕ → Bool
@@ -35,7 +43,7 @@ text_at false octets = strip_carriage_return octets
 
 -- the text of the last line
 abbrev pub text_in : {A : Type 0} → Lines A → List ℕ
-text_in s = text_at s.is_over (octets_of_line s)
+text_in s = text_at (is_at_end s) (octets_of_line s)
 
 -- what may follow: nothing if the source is at its end
 abbrev pub MayFollow : Bool → List ℕ → Type 0
@@ -83,16 +91,19 @@ Finds before after old new result =
     (fed : List ℕ) × Consumes before after fed
     × MatchResult result
     (λ found. MatchOption found (IsAtEnd after × (octets_left old ++ fed ≡ []))
-    (λ number. (number ≡ new.number) × (number ≡ old.number + 1) × (old.is_over ≡ false)
-    × HasNext old.number (octets_left old ++ fed) new.is_over (octets_left new) (text_in new)))
-    (λ fault. (old.is_over ≡ false) × HasFault old.number (octets_left old ++ fed) fault)
+    (λ number. (number ≡ lines_read new) × (number ≡ lines_read old + 1)
+    × (is_at_end old ≡ false)
+    × HasNext (lines_read old) (octets_left old ++ fed) (is_at_end new) (octets_left new)
+    (text_in new)))
+    (λ fault. (is_at_end old ≡ false)
+    × HasFault (lines_read old) (octets_left old ++ fed) fault)
 
 -- whatever the input was, the reads kept to its limits if those before them did
 abbrev pub ReadsWithin : {A : Type 0} → Option (List ℕ) → Option (List ℕ) → Lines A → Type 0
 ReadsWithin before after old =
     (input : Option (List ℕ)) (front : List ℕ) →
     Consumes input before front →
-    HasRead old.number old.is_over (octets_left old) front →
+    HasRead (lines_read old) (is_at_end old) (octets_left old) front →
     LeavesWhile IsWithin input before → LeavesWhile IsWithin input after
 
 -- the count of failed calls rose exactly if the answer is this fault

@@ -4,10 +4,10 @@ use Rattle.std.specs.Io.KnownBytes.{Consumes}
 use Rattle.std.specs.Str.Lines.{strip_carriage_return}
 use Rattle.std.proofs.KnownBytes.{Consumes-nil, Consumes-trans}
 use Rattle.text_lines.specs.Lines.{Line, Ended, Open, lines_of, octets_of}
-use Rattle.ocp_console.specs.Mirror.Lines.{is_one_line, HasRead, HasNext}
+use Rattle.ocp_lines.specs.Lines.{is_one_line, HasRead, HasNext}
 use Rattle.ocp_ports.specs.Reading.{ReadsWhile}
-use Rattle.ocp_console.specs.Reading.{AreShort, IsWithin}
-use Rattle.ocp_console.proofs.Cutting.{ended_line, open_line}
+use Rattle.ocp_lines.specs.Reading.{AreShort, IsWithin}
+use Rattle.ocp_lines.proofs.Cutting.{ended_line, open_line}
 
 pub short-snoc : (lines : List Line) (line : Line) → AreShort lines → length (octets_of line) ≤ 40000 → AreShort (lines ++ line ∷ [])
 short-snoc [] line h le = (le, tt)

@@ -1,9 +1,9 @@
 use Rattle.std.proofs.Common.{◌≡◌, ◌∙◌, sym, ap, Bool, arith}
 use Rattle.std.proofs.lemmas.Grind.{common_steps}
 use Rattle.std.specs.Str.Lines.{strip_carriage_return}
-use Rattle.ocp_console.specs.Mirror.Lines.{octets_of_line, text_at}
-use Rattle.ocp_console.proofs.lines.Lines.text.Goals as goal
-use Rattle.ocp_console.proofs.lines.Lines.text.Goals.{then-is_empty, else-is_empty}
+use Rattle.ocp_lines.specs.Lines.{octets_of_line, text_at}
+use Rattle.ocp_lines.proofs.lines.Lines.text.Goals as goal
+use Rattle.ocp_lines.proofs.lines.Lines.text.Goals.{then-is_empty, else-is_empty}
 
 pub returns : goal.returns
 returns g c =

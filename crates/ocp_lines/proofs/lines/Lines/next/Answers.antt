@@ -2,10 +2,10 @@ use Rattle.std.proofs.Common.{◌≡◌, ◌<◌, ◌+◌, ◌++◌, ◌-◌, []
 use Rattle.std.specs.Str.Lines.{strip_carriage_return}
 use Rattle.std.proofs.KnownBytes.{Consumes-nil}
 use Rattle.std.proofs.lemmas.List.{length-take-le}
-use Rattle.ocp_console.specs.Mirror.Lines.{octets_left, text_at}
-use Rattle.ocp_console.proofs.Cutting.{next_held, held_length, held_part, not_true}
-use Rattle.ocp_console.proofs.Taking.{ended_next}
-use Rattle.ocp_console.proofs.lines.Lines.next.Goals as goal
+use Rattle.ocp_lines.specs.Lines.{octets_left, text_at}
+use Rattle.ocp_lines.proofs.Cutting.{next_held, held_length, held_part, not_true}
+use Rattle.ocp_lines.proofs.Taking.{ended_next}
+use Rattle.ocp_lines.proofs.lines.Lines.next.Goals as goal
 
 pub returns-clause-lines : goal.returns-clause-lines
 returns-clause-lines g c =

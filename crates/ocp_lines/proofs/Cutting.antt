@@ -3,7 +3,7 @@ use Rattle.std.proofs.Common.{◌≡◌, ◌++◌, ◌<◌, ◌≤◌, ◌+◌, 
 use Rattle.std.proofs.lemmas.List.{drop-take, drop_more, length-take-le}
 use Rattle.std.proofs.Math.Seq.{drop-nil}
 use Rattle.text_lines.specs.Lines.{Line, Ended, Open, onto, lines_of}
-use Rattle.ocp_console.specs.Mirror.Lines.{is_one_line, Begins}
+use Rattle.ocp_lines.specs.Lines.{is_one_line, Begins}
 
 -- the first octet of a line is none that ends it
 one_line-cons : (c : ℕ) (p : List ℕ) → is_one_line (c ∷ p) ≡ true → (eqb c 10 ≡ false) × (is_one_line p ≡ true)

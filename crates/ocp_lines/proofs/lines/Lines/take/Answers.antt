@@ -1,7 +1,7 @@
 use Rattle.std.proofs.Common.{◌≡◌, ◌<◌, ◌≤◌, ◌-◌, ◌+◌, ◌++◌, ◌∷◌, ℕ, List, true, take, drop, length, append_assoc, sym, ap, ◌∙◌, refl, arith}
-use Rattle.ocp_console.specs.Mirror.Lines.{octets_left, is_one_line}
-use Rattle.ocp_console.proofs.Cutting.{too_long_line, next_held, held_length, few_left}
-use Rattle.ocp_console.proofs.lines.Lines.take.Goals as goal
+use Rattle.ocp_lines.specs.Lines.{octets_left, is_one_line}
+use Rattle.ocp_lines.proofs.Cutting.{too_long_line, next_held, held_length, few_left}
+use Rattle.ocp_lines.proofs.lines.Lines.take.Goals as goal
 
 pub returns-then-len-count-gt-MAX_LINE_OCTETS-clause-fault : goal.returns-then-len-count-gt-MAX_LINE_OCTETS-clause-fault
 returns-then-len-count-gt-MAX_LINE_OCTETS-clause-fault g c =
