@@ -16,9 +16,9 @@ pub struct Lines<A: Allocator> {
     /// Where the octets of the chunk begin that no line has yet, and where they end.
     start: usize,
     end: usize,
-    /// The last line, if more than one read gave it.
+    /// The last line, if its newline was not held when it was asked for.
     line: Vec<u8, A>,
-    /// Where the last line is in the chunk, if one read gave it.
+    /// Where the last line is in the chunk, if its newline was held.
     first: usize,
     last: usize,
     /// The number of the last line.
@@ -72,9 +72,9 @@ impl<A: Allocator> Lines<A> {
     }
 
     /// Finds the next line, and returns its number from 1, or none if there is no line left. Each
-    /// call has the same source. The faults, in this order: `TooManyLines` (over 100,000),
-    /// `LineTooLong` (over 40,000 octets, a carriage return included and the newline not), `Memory`
-    /// of a line that more than one read gave, and `Read`.
+    /// call has the same source. Before each read, what is held is refused in this order:
+    /// `TooManyLines` (over 100,000), `LineTooLong` (over 40,000 octets, a carriage return included
+    /// and the newline not), `Memory`. `Read` is a read that failed.
     pub fn next<R: Source>(&mut self, reader: &mut R) -> Result<Option<u32>, ConsoleFault>
         requires device { R.failed_reads reader.old < 2 ^ 64 - 1 }
         requires end { is_at_end self.old ≡ true → IsAtEnd (R.remaining reader.old) }
