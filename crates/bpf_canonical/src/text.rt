@@ -85,6 +85,17 @@ impl<const ROOM: usize> Text<ROOM> {
         self.push_number(number.unsigned_abs());
     }
 
+    /// Appends a distance of 16 bits in decimal digits, always with its sign.
+    #[inline(always)]
+    #[tactic(auto, using(crate::proofs::Rooms::short_distance))]
+    pub(crate) fn push_short_distance(&mut self, distance: i16)
+        requires { length self.old + 6 ≤ ROOM }
+        ensures items { self.new ≡ self.old ++ with_sign distance }
+        ensures len { length self.new ≤ length self.old + 6 }
+    {
+        self.push_distance(i32::from(distance));
+    }
+
     /// Appends a distance in decimal digits, always with its sign.
     pub(crate) fn push_distance(&mut self, distance: i32)
         requires { length self.old + length (with_sign distance) ≤ ROOM }

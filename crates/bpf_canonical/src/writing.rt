@@ -36,7 +36,6 @@ impl<const ROOM: usize> Text<ROOM> {
     }
 
     /// Appends an operand in memory.
-    #[tactic(auto, using(crate::proofs::Rooms::short_distance))]
     fn push_place(&mut self, base: Reg, offset: i16)
         requires { length self.old + 11 ≤ ROOM }
         ensures items { self.new ≡ self.old ++ place_text base offset }
@@ -44,7 +43,7 @@ impl<const ROOM: usize> Text<ROOM> {
     {
         self.push_all(b"[");
         self.push_register(base);
-        self.push_distance(i32::from(offset));
+        self.push_short_distance(offset);
         self.push_all(b"]");
     }
 
@@ -85,7 +84,7 @@ impl<const ROOM: usize> Text<ROOM> {
     }
 
     /// Appends the operands of an instruction, after a space.
-    #[tactic(auto, using(crate::proofs::Rooms::room_least, crate::proofs::Rooms::few_digits, crate::proofs::Rooms::short_distance, crate::proofs::Rooms::long_distance))]
+    #[tactic(auto, using(crate::proofs::Rooms::room_least, crate::proofs::Rooms::few_digits, crate::proofs::Rooms::long_distance))]
     fn push_operands(&mut self, line: &Line)
         requires { length self.old + operands_room line.now ≤ ROOM }
         ensures items { self.new ≡ self.old ++ operands_text line.now }
@@ -158,11 +157,11 @@ impl<const ROOM: usize> Text<ROOM> {
                 self.push_first_register(dst);
                 self.push_operand(operand);
                 self.push_all(b", ");
-                self.push_distance(i32::from(distance));
+                self.push_short_distance(distance);
             }
             Line::Jump { distance } => {
                 self.push_all(b" ");
-                self.push_distance(i32::from(distance));
+                self.push_short_distance(distance);
             }
             Line::LongJump { distance } => {
                 self.push_all(b" ");

@@ -29,14 +29,12 @@ returns-in-MoveExtended-clause-items g c =
     let dst = codes " " ++ register move.dst ++ codes ", " in
     let src = twice old dst (register move.src) c.push_first_register-in-MoveExtended.ensures.items c.push_register-in-MoveExtended.ensures.items in
     let comma = twice old (dst ++ register move.src) (codes ", ") src c.push_all-in-MoveExtended.ensures.items in
-    let bits : c.push_number.new.self ≡ c.push_all-in-MoveExtended.new.self ++ decimal (extension_bits move.extension) = search rules in
-    of_line old move.is (twice old (dst ++ register move.src ++ codes ", ") (decimal (extension_bits move.extension)) comma bits)
+    of_line old move.is (twice old (dst ++ register move.src ++ codes ", ") (decimal (extension_bits move.extension)) comma (search rules))
 
 pub returns-in-ByteOrder-clause-items : goal.returns-in-ByteOrder-clause-items
 returns-in-ByteOrder-clause-items g c =
     let order = c.in-ByteOrder in
-    let bits : c.push_number-in-ByteOrder.new.self ≡ c.push_first_register-in-ByteOrder.new.self ++ decimal (swap_width_bits order.width) = search rules in
-    of_line c.args.self.now order.is (twice c.args.self.now (codes " " ++ register order.dst ++ codes ", ") (decimal (swap_width_bits order.width)) c.push_first_register-in-ByteOrder.ensures.items bits)
+    of_line c.args.self.now order.is (twice c.args.self.now (codes " " ++ register order.dst ++ codes ", ") (decimal (swap_width_bits order.width)) c.push_first_register-in-ByteOrder.ensures.items (search rules))
 
 pub returns-in-LoadWide-clause-items : goal.returns-in-LoadWide-clause-items
 returns-in-LoadWide-clause-items g c =
@@ -63,8 +61,7 @@ returns-in-JumpIf-clause-items g c =
     let dst = codes " " ++ register jump.dst ++ codes ", " in
     let operand = twice old dst (operand_text jump.operand) c.push_first_register-in-JumpIf.ensures.items c.push_operand-in-JumpIf.ensures.items in
     let comma = twice old (dst ++ operand_text jump.operand) (codes ", ") operand c.push_all-in-JumpIf.ensures.items in
-    let distance : c.push_distance.new.self ≡ c.push_all-in-JumpIf.new.self ++ with_sign jump.distance = search rules in
-    of_line old jump.is (twice old (dst ++ operand_text jump.operand ++ codes ", ") (with_sign jump.distance) comma distance)
+    of_line old jump.is (twice old (dst ++ operand_text jump.operand ++ codes ", ") (with_sign jump.distance) comma (search rules))
 
 pub returns-in-StoreImmediate-clause-items : goal.returns-in-StoreImmediate-clause-items
 returns-in-StoreImmediate-clause-items g c =
@@ -79,20 +76,16 @@ returns-in-Store-clause-items g c =
 
 pub returns-in-Jump-clause-items : goal.returns-in-Jump-clause-items
 returns-in-Jump-clause-items g c =
-    let value : c.push_distance-in-Jump.new.self ≡ c.push_all-in-Jump.new.self ++ with_sign c.in-Jump.distance = search rules in
-    of_line c.args.self.now c.in-Jump.is (twice c.args.self.now (codes " ") (with_sign c.in-Jump.distance) c.push_all-in-Jump.ensures.items value)
+    of_line c.args.self.now c.in-Jump.is (twice c.args.self.now (codes " ") (with_sign c.in-Jump.distance) c.push_all-in-Jump.ensures.items (search rules))
 
 pub returns-in-LongJump-clause-items : goal.returns-in-LongJump-clause-items
 returns-in-LongJump-clause-items g c =
-    let value : c.push_distance-in-LongJump.new.self ≡ c.push_all-in-LongJump.new.self ++ with_sign c.in-LongJump.distance = search rules in
-    of_line c.args.self.now c.in-LongJump.is (twice c.args.self.now (codes " ") (with_sign c.in-LongJump.distance) c.push_all-in-LongJump.ensures.items value)
+    of_line c.args.self.now c.in-LongJump.is (twice c.args.self.now (codes " ") (with_sign c.in-LongJump.distance) c.push_all-in-LongJump.ensures.items (search rules))
 
 pub returns-in-Call-clause-items : goal.returns-in-Call-clause-items
 returns-in-Call-clause-items g c =
-    let value : c.push_signed-in-Call.new.self ≡ c.push_all-in-Call.new.self ++ signed_decimal c.in-Call.number = search rules in
-    of_line c.args.self.now c.in-Call.is (twice c.args.self.now (codes " ") (signed_decimal c.in-Call.number) c.push_all-in-Call.ensures.items value)
+    of_line c.args.self.now c.in-Call.is (twice c.args.self.now (codes " ") (signed_decimal c.in-Call.number) c.push_all-in-Call.ensures.items (search rules))
 
 pub returns-in-CallLocal-clause-items : goal.returns-in-CallLocal-clause-items
 returns-in-CallLocal-clause-items g c =
-    let value : c.push_distance-in-CallLocal.new.self ≡ c.push_all-in-CallLocal.new.self ++ with_sign c.in-CallLocal.distance = search rules in
-    of_line c.args.self.now c.in-CallLocal.is (twice c.args.self.now (codes " local ") (with_sign c.in-CallLocal.distance) c.push_all-in-CallLocal.ensures.items value)
+    of_line c.args.self.now c.in-CallLocal.is (twice c.args.self.now (codes " local ") (with_sign c.in-CallLocal.distance) c.push_all-in-CallLocal.ensures.items (search rules))
