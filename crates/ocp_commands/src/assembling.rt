@@ -1,6 +1,6 @@
 //! The command `asm`.
 
-ghost use Rattle.std.specs.Prelude.{◌≡◌, List, ℕ, ◌<◌, ◌-◌, ◌^◌, length, IfOk, IfErr, IfSome, string_bytes};
+ghost use Rattle.std.specs.Prelude.{◌≡◌, List, ℕ, ◌<◌, ◌-◌, ◌^◌, length, IfOk, IfErr, IfSome, MatchOption, string_bytes};
 ghost use Rattle.ocp_profile.specs.declared.profile.Profile.{Profile};
 ghost use Rattle.bpf_assembler.specs.Faults.{IsFault};
 ghost use Rattle.bpf_assembler.specs.Assembling.{IsImageOfText};
@@ -55,15 +55,6 @@ fn output_of_fault<A: Allocator + Copy>(
     Ok(Output::of_fault(text))
 }
 
-/// The output if the input is too long.
-fn output_too_long<A: Allocator>(alloc: A, profile: Profile) -> Result<Output<A>, AllocError>
-    ensures { (input : List ℕ) → max_input < length input →
-        IfOk result (λ output. Assembles profile input output.text.items output.done) }
-{
-    let text = error_text(alloc, 0, "TooLong")?;
-    Ok(Output::of_fault(text))
-}
-
 /// The output if the text means this image.
 fn output_of_image<A: Allocator>(alloc: A, image: &[u8]) -> Result<Output<A>, AllocError>
     ensures { (profile : Profile) (input : List ℕ) → IsShort input →
@@ -71,19 +62,28 @@ fn output_of_image<A: Allocator>(alloc: A, image: &[u8]) -> Result<Output<A>, Al
         IfOk result (λ output. Assembles profile input output.text.items output.done) }
 {
     let text = image_text(alloc, image)?;
-    Ok(Output::of_text(text.into_bytes()))
+    Ok(Output {
+        text: text.into_bytes(),
+        done: true,
+    })
 }
 
-/// The output for an input that is not too long.
+/// The output for an input, which is none if it is too long.
 fn output_of<A: Allocator + Copy>(
     alloc: A,
     profile: Profile,
-    input: &[u8],
+    input: Option<Vec<u8, A>>,
 ) -> Result<Output<A>, AllocError>
-    requires { IsShort input.now }
-    ensures { IfOk result (λ output. Assembles profile input.now output.text.items output.done) }
+    requires { IfSome input (λ octets. IsShort octets.items) }
+    ensures { (whole : List ℕ) →
+        MatchOption input (max_input < length whole) (λ octets. octets.items ≡ whole) →
+        IfOk result (λ output. Assembles profile whole output.text.items output.done) }
 {
-    match assemble(alloc, profile, input) {
+    let Some(input) = input else {
+        let text = error_text(alloc, 0, "TooLong")?;
+        return Ok(Output::of_fault(text));
+    };
+    match assemble(alloc, profile, &input) {
         Ok(image) => output_of_image(alloc, image.octets()),
         Err(AsmFault::At { line, why }) => output_of_fault(alloc, line, why),
         Err(AsmFault::Memory) => Err(AllocError),
@@ -114,9 +114,7 @@ pub fn asm<R: Source, W: Sink, A: Allocator + Copy>(
     ensures read { TellsReads (R.failed_reads reader.old) (R.failed_reads reader.new) result }
     ensures write { TellsWrites (W.failed_writes writer.old) (W.failed_writes writer.new) result }
 {
-    let output = match read_whole(alloc, reader)? {
-        Some(input) => output_of(alloc, profile, &input)?,
-        None => output_too_long(alloc, profile)?,
-    };
+    let input = read_whole(alloc, reader)?;
+    let output = output_of(alloc, profile, input)?;
     write_output(writer, &output)
 }

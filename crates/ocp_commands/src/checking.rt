@@ -1,17 +1,19 @@
 //! The command `check`.
 
-ghost use Rattle.std.specs.Prelude.{◌≡◌, List, ℕ, ◌≤◌, ◌<◌, ◌-◌, ◌^◌, IfOk, IfErr, IfSome, length, string_bytes};
+ghost use Rattle.std.specs.Prelude.{◌≡◌, List, ℕ, ◌<◌, ◌-◌, ◌^◌, IfOk, IfErr, IfSome, IsTrue, MatchOption, length, string_bytes};
 ghost use Rattle.ocp_profile.specs.declared.profile.Profile.{Profile};
 ghost use Rattle.ocp_loader.specs.Admitted.{IsAdmitted};
+ghost use Rattle.ocp_check.specs.Never.{NeverFaults, AsksWell};
+ghost use Rattle.ocp_check.specs.Rounds.{IsWithin};
 ghost use Rattle.ocp_ports.specs.Outcomes.{TellsReads, TellsWrites};
 ghost use Rattle.ocp_ports.specs.Reading.{max_input, IsShort, LeavesWhile};
 ghost use Rattle.ocp_commands.specs.Commands.{Writes, IsMachineFault};
 ghost use Rattle.ocp_commands.specs.Listings.{HasImage};
-ghost use Rattle.ocp_commands.specs.Checks.{check_fault_line, HasCheckFault, IsShown, Checks};
+ghost use Rattle.ocp_commands.specs.Checks.{check_fault_line, HasCheckFault, Checks};
 
 use crate::listing::digits;
-use crate::output::{Output, write_output};
-use crate::verdict::{places_text, verdict_text};
+use crate::output::{Output, numbered_text, write_output};
+use crate::verdict::{push_places, push_verdict};
 use ocp_check::{Findings, examine};
 use ocp_loader::{LoadFault, Program, load};
 use ocp_ports::{ConsoleFault, Sink, Source, error_text, read_whole};
@@ -38,10 +40,7 @@ fn fault_line<A: Allocator>(alloc: A, fault: CheckFault) -> Result<String<A>, Al
         CheckFault::TooLong => error_text(alloc, 0, "TooLong"),
         CheckFault::Hex => error_text(alloc, 0, "Hex"),
         CheckFault::Load(why) => {
-            let slot = why.slot();
-            let number = why.number();
-            let text = format!(in alloc; "error {slot} Load {number}\n")?;
-            Ok(text)
+            numbered_text(alloc, u64::from(why.slot()), "Load", why.number())
         }
     }
 }
@@ -56,49 +55,31 @@ fn output_of_fault<A: Allocator>(alloc: A, fault: CheckFault) -> Result<Output<A
     Ok(Output::of_fault(line))
 }
 
-/// The output if the input is too long.
-#[tactic(auto, unfolding(crate::specs::Checks::Checks))]
-fn output_too_long<A: Allocator>(
-    alloc: A,
-    profile: Profile,
-    pool_words: u16,
-) -> Result<Output<A>, AllocError>
-    ensures { (input : List ℕ) → max_input < length input →
-        IfOk result (λ output. Checks profile pool_words input output.text.items output.done) }
-{
-    let line = fault_line(alloc, CheckFault::TooLong)?;
-    Ok(Output::of_fault(line))
-}
-
-/// The output for an image of which all is shown.
-#[tactic(auto, unfolding(crate::specs::Checks::Checks))]
-fn output_of_verdict<A: Allocator + Copy>(
-    alloc: A,
-    words: u16,
-    most: u32,
-) -> Result<Output<A>, AllocError>
-    ensures { (profile : Profile) (pool : ℕ) (input image : List ℕ) → HasImage input image →
-        IsAdmitted profile image → words ≤ pool → IsShown image words most →
-        IfOk result (λ output. Checks profile pool input output.text.items output.done) }
-{
-    let text = verdict_text(alloc, words, most)?;
-    Ok(Output::of_text(text.into_bytes()))
-}
-
-/// The output for an image of which not all is shown.
-#[tactic(auto, unfolding(crate::specs::Checks::Checks))]
-fn output_of_places<A: Allocator + Copy>(
+/// The output for an image that may be run, with what was found of it.
+fn output_of_findings<A: Allocator + Copy>(
     alloc: A,
     program: &Program<A>,
     findings: &Findings<A>,
     pool_words: u16,
 ) -> Result<Output<A>, AllocError>
-    ensures { (profile : Profile) (pool : ℕ) (input image : List ℕ) → HasImage input image →
-        IsAdmitted profile image →
-        IfOk result (λ output. Checks profile pool input output.text.items output.done) }
+    requires never { IsTrue findings.now.never_faults → NeverFaults program.now }
+    requires words { IfSome findings.now.words (AsksWell program.now) }
+    requires round { IfSome findings.now.round (IsWithin program.now) }
+    ensures { (profile : Profile) (input : List ℕ) → HasImage input program.now →
+        IsAdmitted profile program.now →
+        IfOk result (λ output. Checks profile pool_words input output.text.items output.done) }
 {
-    let places = places_text(alloc, program, findings, pool_words)?;
-    Ok(Output::of_places(places))
+    let mut text = Vec::new(alloc);
+    if findings.never_faults {
+        if let (Some(words), Some(most)) = (findings.words, findings.round) {
+            if words <= pool_words {
+                push_verdict(words, most, &mut text)?;
+                return Ok(Output { text, done: true });
+            }
+        }
+    }
+    push_places(alloc, program, findings, pool_words, &mut text)?;
+    Ok(Output { text, done: false })
 }
 
 /// The output for an image that may be run.
@@ -112,14 +93,7 @@ fn output_of_program<A: Allocator + Copy>(
         IfOk result (λ output. Checks profile pool_words input output.text.items output.done) }
 {
     let findings = examine(alloc, program, pool_words)?;
-    if findings.never_faults {
-        if let (Some(words), Some(most)) = (findings.words, findings.round) {
-            if words <= pool_words {
-                return output_of_verdict(alloc, words, most);
-            }
-        }
-    }
-    output_of_places(alloc, program, &findings, pool_words)
+    output_of_findings(alloc, program, &findings, pool_words)
 }
 
 /// The output for an image.
@@ -139,17 +113,21 @@ fn output_of_image<A: Allocator + Copy>(
     }
 }
 
-/// The output for an input that is not too long.
+/// The output for an input, which is none if it is too long.
 fn output_of<A: Allocator + Copy>(
     alloc: A,
     profile: Profile,
     pool_words: u16,
-    input: Vec<u8, A>,
+    input: Option<Vec<u8, A>>,
 ) -> Result<Output<A>, AllocError>
-    requires { IsShort input.items }
-    ensures { IfOk result (λ output.
-        Checks profile pool_words input.items output.text.items output.done) }
+    requires { IfSome input (λ octets. IsShort octets.items) }
+    ensures { (whole : List ℕ) →
+        MatchOption input (max_input < length whole) (λ octets. octets.items ≡ whole) →
+        IfOk result (λ output. Checks profile pool_words whole output.text.items output.done) }
 {
+    let Some(input) = input else {
+        return output_of_fault(alloc, CheckFault::TooLong);
+    };
     let mut image = Vec::new(alloc);
     match octets_of(&mut image, digits(&input))? {
         Some(image) => output_of_image(alloc, profile, pool_words, image),
@@ -185,9 +163,7 @@ pub fn check<R: Source, W: Sink, A: Allocator + Copy>(
     ensures read { TellsReads (R.failed_reads reader.old) (R.failed_reads reader.new) result }
     ensures write { TellsWrites (W.failed_writes writer.old) (W.failed_writes writer.new) result }
 {
-    let output = match read_whole(alloc, reader)? {
-        Some(input) => output_of(alloc, profile, pool_words, input)?,
-        None => output_too_long(alloc, profile, pool_words)?,
-    };
+    let input = read_whole(alloc, reader)?;
+    let output = output_of(alloc, profile, pool_words, input)?;
     write_output(writer, &output)
 }

@@ -1,12 +1,12 @@
 //! The command `list`.
 
-ghost use Rattle.std.specs.Prelude.{◌≡◌, List, ℕ, ◌<◌, ◌-◌, ◌^◌, IfOk, IfErr, IfSome, string_bytes};
+ghost use Rattle.std.specs.Prelude.{◌≡◌, List, ℕ, ◌<◌, ◌-◌, ◌^◌, IfOk, IfErr, IfSome, MatchOption, length, string_bytes};
 ghost use Rattle.ocp_ports.specs.Outcomes.{TellsReads, TellsWrites};
-ghost use Rattle.ocp_ports.specs.Reading.{IsShort, LeavesWhile};
+ghost use Rattle.ocp_ports.specs.Reading.{max_input, IsShort, LeavesWhile};
 ghost use Rattle.ocp_commands.specs.Commands.{Writes, IsMachineFault};
 ghost use Rattle.ocp_commands.specs.Listings.{is_blank, digits_of, list_fault_line, HasImage, HasListFault, Lists};
 
-use crate::output::{Output, write_output};
+use crate::output::{Output, numbered_text, write_output};
 use bpf_canonical::MAX_TEXT_LENGTH;
 use bpf_decode::DecodeFault;
 use bpf_listing::{DisassembleFault, disassemble};
@@ -35,11 +35,7 @@ fn fault_line<A: Allocator>(alloc: A, fault: ListFault) -> Result<String<A>, All
         ListFault::TooLong => error_text(alloc, 0, "TooLong"),
         ListFault::Hex => error_text(alloc, 0, "Hex"),
         ListFault::Ragged => error_text(alloc, 0, "Ragged"),
-        ListFault::Decode(why, slot) => {
-            let number = why.number();
-            let text = format!(in alloc; "error {slot} Decode {number}\n")?;
-            Ok(text)
-        }
+        ListFault::Decode(why, slot) => numbered_text(alloc, slot as u64, "Decode", why.number()),
     }
 }
 
@@ -87,7 +83,10 @@ fn output_of_image<A: Allocator + Copy>(
     place.clear();
     place.reserve((image.len() / 8).saturating_mul(LONGEST_LINE))?;
     match disassemble(image, &mut place) {
-        Ok(()) => Ok(Output::of_text(place)),
+        Ok(()) => Ok(Output {
+            text: place,
+            done: true,
+        }),
         Err(DisassembleFault::Ragged) => output_of_fault(alloc, ListFault::Ragged),
         Err(DisassembleFault::Decode(why, slot)) => output_of_fault(
             alloc,
@@ -97,11 +96,19 @@ fn output_of_image<A: Allocator + Copy>(
     }
 }
 
-/// The output for an input that is not too long.
-fn output_of<A: Allocator + Copy>(alloc: A, input: Vec<u8, A>) -> Result<Output<A>, AllocError>
-    requires { IsShort input.items }
-    ensures { IfOk result (λ output. Lists input.items output.text.items output.done) }
+/// The output for an input, which is none if it is too long.
+fn output_of<A: Allocator + Copy>(
+    alloc: A,
+    input: Option<Vec<u8, A>>,
+) -> Result<Output<A>, AllocError>
+    requires { IfSome input (λ octets. IsShort octets.items) }
+    ensures { (whole : List ℕ) →
+        MatchOption input (max_input < length whole) (λ octets. octets.items ≡ whole) →
+        IfOk result (λ output. Lists whole output.text.items output.done) }
 {
+    let Some(input) = input else {
+        return output_of_fault(alloc, ListFault::TooLong);
+    };
     let mut image = Vec::new(alloc);
     match octets_of(&mut image, digits(&input))? {
         Some(image) => output_of_image(alloc, image, input),
@@ -131,9 +138,7 @@ pub fn list<R: Source, W: Sink, A: Allocator + Copy>(
     ensures read { TellsReads (R.failed_reads reader.old) (R.failed_reads reader.new) result }
     ensures write { TellsWrites (W.failed_writes writer.old) (W.failed_writes writer.new) result }
 {
-    let output = match read_whole(alloc, reader)? {
-        Some(input) => output_of(alloc, input)?,
-        None => output_of_fault(alloc, ListFault::TooLong)?,
-    };
+    let input = read_whole(alloc, reader)?;
+    let output = output_of(alloc, input)?;
     write_output(writer, &output)
 }

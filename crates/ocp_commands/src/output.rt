@@ -1,10 +1,12 @@
 //! What a command writes.
 
-ghost use Rattle.std.specs.Prelude.{◌≡◌, ◌<◌, ◌-◌, ◌^◌, IfOk, true, false, string_bytes};
+ghost use Rattle.std.specs.Prelude.{◌≡◌, ◌<◌, ◌-◌, ◌^◌, ◌++◌, IfOk, codes, false, string_bytes};
+ghost use Rattle.std.specs.Fmt.{decimal};
 ghost use Rattle.ocp_ports.specs.Outcomes.{CountsFailure, PrintsText};
+ghost use Rattle.ocp_ports.specs.Printing.{error_line};
 
 use ocp_ports::{ConsoleFault, Sink, write_whole};
-use std::alloc::{Allocator, Global};
+use std::alloc::{AllocError, Allocator, Global};
 
 /// What a command writes: what was asked for, or else why not: places, or a fault of the input.
 #[derive(Drop)]
@@ -14,20 +16,6 @@ pub(crate) struct Output<A: Allocator = Global> {
 }
 
 impl<A: Allocator> Output<A> {
-    /// The output of a command that is done.
-    pub fn of_text(text: Vec<u8, A>) -> Output<A>
-        ensures { (result.text.items ≡ text.items) × (result.done ≡ true) }
-    {
-        Output { text, done: true }
-    }
-
-    /// The lines of places at which a command did not find what it was asked for.
-    pub fn of_places(text: Vec<u8, A>) -> Output<A>
-        ensures { (result.text.items ≡ text.items) × (result.done ≡ false) }
-    {
-        Output { text, done: false }
-    }
-
     /// The output if the input has a fault.
     pub fn of_fault(line: String<A>) -> Output<A>
         ensures { (result.text.items ≡ string_bytes line) × (result.done ≡ false) }
@@ -37,6 +25,20 @@ impl<A: Allocator> Output<A> {
             done: false,
         }
     }
+}
+
+/// The line of a fault of a slot, with the fault's number after its name.
+pub(crate) fn numbered_text<A: Allocator>(
+    alloc: A,
+    slot: u64,
+    name: &str,
+    number: u8,
+) -> Result<String<A>, AllocError>
+    ensures { IfOk result (λ line. string_bytes line ≡
+        error_line slot (name.now ++ codes " " ++ decimal number)) }
+{
+    let line = format!(in alloc; "error {slot} {name} {number}\n")?;
+    Ok(line)
 }
 
 /// Writes an output, and answers whether it is what was asked for.
