@@ -1,15 +1,16 @@
 //! What a console keeps from line to line, and what each line does to it.
 
-ghost use Rattle.std.specs.Prelude.{◌≡◌, ◌<◌, ◌⊎◌, [], length, IfOk, IfErr, OnOk};
+ghost use Rattle.std.specs.Prelude.{◌≡◌, ◌≢◌, ◌<◌, ◌⊎◌, [], length, IfOk, IfErr, OnOk};
 ghost use Rattle.space_packet.specs.declared.range.TheConstants.{IDLE_APID};
 
 use crate::debugging::{no_octets_text, octets_text, place_text, switch_text};
 use crate::texts::{
     answer_text, journal_text, pool_text, put_text, round_text, step_text, work_text,
 };
+use obcp_messages::Request;
 use ocp_core::Engine;
 use ocp_debug::view_text;
-use ocp_lines::{Command, Count, MAX_MEMORY_LENGTH, Shift, read_command};
+use ocp_lines::{Command, Count, Flags, MAX_MEMORY_LENGTH, Shift, read_command};
 use ocp_ports::{ConsoleFault, Crew};
 use ocp_profile::Profile;
 use ocp_words::Settings;
@@ -34,12 +35,12 @@ pub(crate) struct Console<A: Allocator> {
 }
 
 impl<A: Allocator + Copy> Console<A> {
-    ghost use Rattle.ocp_lines.specs.Grammar.{IsSayable, meaning_of};
-    ghost use Rattle.ocp_console.specs.Answering.{state_of, opening, on_drain, memory_text, effect_of};
+    ghost use Rattle.ocp_lines.specs.Grammar.{IsCarried, IsSayable, meaning_of};
+    ghost use Rattle.ocp_console.specs.Answering.{Does, state_of, opening, on_octets, on_request, on_drain, memory_text, effect_of};
     ghost use Rattle.ocp_console.specs.Crew.{HasDone, HasRefused};
     ghost use Rattle.ocp_ports.specs.declared.crew.CrewFault.{CrewFault};
     ghost use Rattle.ocp_ports.specs.Faults.{crew_fault};
-    ghost use Rattle.ocp_console.specs.Mirror.Replies.{effect_by, works_of, IsKept, Answers};
+    ghost use Rattle.ocp_console.specs.Mirror.Replies.{works_of, Answers};
 
     /// A console on a new engine.
     pub fn new(alloc: A, settings: Settings) -> Result<Console<A>, AllocError>
@@ -60,6 +61,27 @@ impl<A: Allocator + Copy> Console<A> {
             count: SequenceCount::new(0).unwrap(),
             output: Vec::new(alloc),
         })
+    }
+
+    /// What an `up` line does with these octets.
+    fn request(&mut self, alloc: A, octets: &[u8]) -> Result<(), AllocError>
+        requires { self.old.output.items ≡ [] }
+        ensures { OnOk result ((state_of self.new, self.new.output.items) ≡
+            on_octets (state_of self.old) octets.now) }
+    {
+        let answer = self.engine.request(alloc, 0, self.time, octets);
+        answer_text(answer, &mut self.output)
+    }
+
+    /// What a `send` line does.
+    fn send(&mut self, alloc: A, flags: Flags, request: &Request) -> Result<(), AllocError>
+        requires carried { IsCarried self.old.profile request.now }
+        requires empty { self.old.output.items ≡ [] }
+        ensures { OnOk result ((state_of self.new, self.new.output.items) ≡
+            on_request (state_of self.old) flags.number request.now) }
+    {
+        let packet = self.telecommand(alloc, flags, request)?;
+        self.request(alloc, packet.as_slice())
     }
 
     /// What a `drain` line does.
@@ -92,70 +114,62 @@ impl<A: Allocator + Copy> Console<A> {
         }
     }
 
-    /// Does what a command asks for, or returns the work that it asks of the crew. A call that is
-    /// not inlined would copy the command, of 80 octets.
+    /// Does what a command asks for, unless that is work of the crew. A call that is not inlined
+    /// would copy the command, of 80 octets.
     #[inline(always)]
-    fn obey(&mut self, alloc: A, command: Command<'_>) -> Result<Option<Shift>, AllocError>
+    fn obey(&mut self, alloc: A, command: Command<'_>) -> Result<(), AllocError>
         requires sayable { IsSayable self.old.profile (meaning_of command) }
+        requires alone { (shift : Shift) → command ≢ Command.Work shift }
         requires empty { self.old.output.items ≡ [] }
-        ensures effect { IfOk result
-            (λ reply. effect_by (state_of self.new) self.new.output.items reply ≡
+        ensures { OnOk result (Does (state_of self.new, self.new.output.items) ≡
             effect_of (state_of self.old) (meaning_of command.entry)) }
-        ensures kept { IfOk result
-            (λ reply. IsKept (state_of self.old) (state_of self.new) reply) }
     {
         match command {
-            Command::Work(shift) => return Ok(Some(shift)),
-            Command::Nothing => {}
-            Command::Up(octets) => {
-                let answer = self.engine.request(alloc, 0, self.time, octets);
-                answer_text(answer, &mut self.output)?;
+            Command::Nothing | Command::Work(_) => Ok(()),
+            Command::Up(octets) => self.request(alloc, octets),
+            Command::Send { flags, request } => self.send(alloc, flags, &request),
+            Command::Time(time) => {
+                self.time = time;
+                Ok(())
             }
-            Command::Send { flags, request } => {
-                let packet = self.telecommand(alloc, flags, &request)?;
-                let answer = self.engine.request(alloc, 0, self.time, packet.as_slice());
-                answer_text(answer, &mut self.output)?;
-            }
-            Command::Time(time) => self.time = time,
             Command::Step { id, steps } => {
                 let slice = self.engine.slice(0, id, steps.number);
-                step_text(id, slice, &mut self.output)?;
+                step_text(id, slice, &mut self.output)
             }
             Command::Round { id, steps } => {
                 let round = self.engine.round(0, id, steps.number);
-                round_text(id, round, &mut self.output)?;
+                round_text(id, round, &mut self.output)
             }
             Command::Break { id, place } => {
                 let answer = self.engine.set_break(0, id, place);
-                place_text(b"break ", id, place, "set", answer, &mut self.output)?;
+                place_text(b"break ", id, place, "set", answer, &mut self.output)
             }
             Command::Unbreak { id, place } => {
                 let answer = self.engine.clear_break(0, id, place);
-                place_text(b"unbreak ", id, place, "cleared", answer, &mut self.output)?;
+                place_text(b"unbreak ", id, place, "cleared", answer, &mut self.output)
             }
             Command::Trace { id, on } => {
                 let answer = self.engine.trace(0, id, on);
-                switch_text(id, on, answer, &mut self.output)?;
+                switch_text(id, on, answer, &mut self.output)
             }
-            Command::Traces => self.engine.trace_lines(&mut self.output)?,
-            Command::View(id) => view_text(id, self.engine.view(id), &mut self.output)?,
+            Command::Traces => self.engine.trace_lines(&mut self.output),
+            Command::View(id) => view_text(id, self.engine.view(id), &mut self.output),
             Command::Memory {
                 id,
                 address,
                 length,
-            } => self.memory(id, address, length)?,
+            } => self.memory(id, address, length),
             Command::Pool(index) => {
                 let word = self.engine.pool_word(index);
-                pool_text(index, word, &mut self.output)?;
+                pool_text(index, word, &mut self.output)
             }
             Command::Put { index, value } => {
                 let answer = self.engine.put_word(0, index, value);
-                put_text(index, value, answer, &mut self.output)?;
+                put_text(index, value, answer, &mut self.output)
             }
-            Command::Journal => journal_text(self.engine.events(), &mut self.output)?,
-            Command::Drain => self.drain(alloc)?,
+            Command::Journal => journal_text(self.engine.events(), &mut self.output),
+            Command::Drain => self.drain(alloc),
         }
-        Ok(None)
     }
 
     /// Does what the line of this number asks for, or returns the work that it asks of the crew.
@@ -170,10 +184,14 @@ impl<A: Allocator + Copy> Console<A> {
     {
         self.output.clear();
         let mut scratch = Vec::new(alloc);
-        let Some(command) = read_command(&mut scratch, self.profile, line)? else {
-            return Err(ConsoleFault::Syntax(number));
-        };
-        Ok(self.obey(alloc, command)?)
+        match read_command(&mut scratch, self.profile, line)? {
+            None => Err(ConsoleFault::Syntax(number)),
+            Some(Command::Work(shift)) => Ok(Some(shift)),
+            Some(command) => {
+                self.obey(alloc, command)?;
+                Ok(None)
+            }
+        }
     }
 
     /// The console after the crew's work, or none if the crew refused: then the engine is lost.

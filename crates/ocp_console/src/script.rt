@@ -1,12 +1,13 @@
 //! A whole run.
 
-ghost use Rattle.std.specs.Prelude.{◌≡◌, ◌≢◌, ◌<◌, ◌^◌, ◌-◌, ◌++◌, ◌↔◌, List, ℕ, Result, Ok, Err, None, IfSome, IsErrOf, MatchResult};
+ghost use Rattle.std.specs.Prelude.{◌≡◌, ◌≢◌, ◌<◌, ◌^◌, ◌-◌, ◌++◌, ◌↔◌, List, [], ℕ, Result, Ok, Err, None, false, IfSome, IsErrOf, MatchResult};
 ghost use Rattle.std.specs.Io.KnownBytes.{Appends};
 ghost use Rattle.ocp_ports.specs.declared.fault.ConsoleFault.{ConsoleFault};
 ghost use Rattle.ocp_ports.specs.Faults.{fault_line};
 ghost use Rattle.ocp_console.specs.Mirror.Replies.{Refuses};
 ghost use Rattle.ocp_ports.specs.Outcomes.{TellsReads, TellsWrites};
 ghost use Rattle.ocp_ports.specs.Reading.{LeavesWhile};
+ghost use Rattle.ocp_lines.specs.Lines.{octets_left, lines_read, is_at_end};
 ghost use Rattle.ocp_lines.specs.Reading.{IsWithin};
 ghost use Rattle.ocp_console.specs.Script.{IsWorkless, Prints, PrintsBy, WritesScript, transcript};
 
@@ -44,15 +45,19 @@ fn refuse<W: Sink, A: Allocator + Copy>(
     }
 }
 
-/// Does each line of a script in turn, and writes what it prints.
+/// Does each line of a script in turn, and writes what it prints. No line was read before.
 fn do_lines<R: Source, W: Sink, C: Crew<Engine<A>>, A: Allocator + Copy>(
     alloc: A,
     settings: Settings,
     crew: &C,
+    lines: &mut Lines<A>,
     reader: &mut R,
     writer: &mut W,
 ) -> Result<(), ConsoleFault>
     requires ready { C.ready crew.now }
+    requires held { octets_left lines.old ≡ [] }
+    requires number { lines_read lines.old ≡ 0 }
+    requires is_over { is_at_end lines.old ≡ false }
     requires reads { R.failed_reads reader.old < 2 ^ 64 - 1 }
     requires writes { W.failed_writes writer.old < 2 ^ 64 - 1 }
     ensures run { IfSome (R.remaining reader.old) (λ script.
@@ -70,7 +75,6 @@ fn do_lines<R: Source, W: Sink, C: Crew<Engine<A>>, A: Allocator + Copy>(
         W.failed_writes writer.new ≡ W.failed_writes writer.old }
 {
     let mut console = Console::new(alloc, settings)?;
-    let mut lines = Lines::new(alloc);
     while let Some(number) = lines.next(reader)? {
         if let Some(shift) = console.answer(alloc, number, lines.text())? {
             console = console.work(crew, shift)?;
@@ -112,7 +116,8 @@ pub fn run<R: Source, W: Sink, C: Crew<Engine<A>>, A: Allocator + Copy>(
     ensures read { TellsReads (R.failed_reads reader.old) (R.failed_reads reader.new) result }
     ensures write { TellsWrites (W.failed_writes writer.old) (W.failed_writes writer.new) result }
 {
-    match do_lines(alloc, settings, crew, reader, writer) {
+    let mut lines = Lines::new(alloc);
+    match do_lines(alloc, settings, crew, &mut lines, reader, writer) {
         Ok(()) => Ok(()),
         Err(fault) => Err(refuse(alloc, writer, fault)),
     }

@@ -1,9 +1,10 @@
 //! What is printed of reports, steps, rounds, the pool and the journal.
 
 ghost use Rattle.std.specs.Prelude.{◌≡◌, ◌≢◌, ◌≤◌, ◌+◌, ◌++◌, Err, codes, length, OnOk};
+ghost use Rattle.std.specs.List.{flat_map};
 ghost use Rattle.ocp_world.specs.After.{Requested};
 ghost use Rattle.ocp_console.specs.Answering.{answer_text};
-ghost use Rattle.ocp_console.specs.Texts.{report_line, step_line, step_end_text, round_line, pool_line, put_ending, put_line, journal_line, work_line};
+ghost use Rattle.ocp_console.specs.Texts.{report_line, step_line, step_end_text, round_line, pool_line, put_line, journal_line, work_line};
 
 use crate::text::{Text, push_octets, push_parts};
 use ocp_core::{EngineFault, PutFault, Reports, Round, Slice};
@@ -28,17 +29,36 @@ fn push_report<A: Allocator>(packet: &[u8], output: &mut Vec<u8, A>) -> Result<(
     push_octets(tm.payload, output)
 }
 
-/// The line of a packet that is discarded, or of a request or a drain that is refused, for the
-/// reason with this name.
-fn reason_text(front: &[u8], name: &str) -> Text
+/// Appends the lines of reports.
+fn push_reports<A: Allocator>(
+    reports: &Reports<A>,
+    output: &mut Vec<u8, A>,
+) -> Result<(), AllocError>
+    ensures { OnOk result
+        (output.new.items ≡ output.old.items ++ flat_map report_line reports.now) }
+{
+    for packet in reports.packets() {
+        push_report(packet.as_slice(), output)?;
+    }
+    Ok(())
+}
+
+/// Appends the line of a packet that is discarded, or of a request or a drain that is refused, for
+/// the reason with this name.
+fn push_reason<A: Allocator>(
+    front: &[u8],
+    name: &str,
+    output: &mut Vec<u8, A>,
+) -> Result<(), AllocError>
     requires { length front.now + length name.now ≤ 63 }
-    ensures { result ≡ front.now ++ name.now ++ codes "\n" }
+    ensures { OnOk result
+        (output.new.items ≡ output.old.items ++ front.now ++ name.now ++ codes "\n") }
 {
     let mut text = Text::new();
     text.push_all(front);
     text.push_all(name.as_bytes());
     text.push_all(b"\n");
-    text
+    output.extend_from_slice(text.as_slice())
 }
 
 /// Appends the lines of a request or a drain with this answer.
@@ -50,18 +70,12 @@ pub(crate) fn answer_text<A: Allocator>(
         (output.new.items ≡ output.old.items ++ answer_text (Requested answer)) }
     ensures memory { OnOk result (answer ≢ Err EngineFault.Memory) }
 {
-    let text = match answer {
-        Ok(reports) => {
-            for packet in reports.packets() {
-                push_report(packet.as_slice(), output)?;
-            }
-            return Ok(());
-        }
-        Err(EngineFault::Discarded(why)) => reason_text(b"discarded ", why.name()),
-        Err(EngineFault::Memory) => return Err(AllocError),
-        Err(fault) => reason_text(b"refused ", fault.name()),
-    };
-    output.extend_from_slice(text.as_slice())
+    match answer {
+        Ok(reports) => push_reports(&reports, output),
+        Err(EngineFault::Discarded(why)) => push_reason(b"discarded ", why.name(), output),
+        Err(EngineFault::Memory) => Err(AllocError),
+        Err(fault) => push_reason(b"refused ", fault.name(), output),
+    }
 }
 
 /// Appends the line of some steps.
@@ -108,16 +122,6 @@ pub(crate) fn round_text<A: Allocator>(
     output.extend_from_slice(text.as_slice())
 }
 
-/// How a write of a word ended.
-fn put_ending(answer: Result<(), PutFault>) -> &'static str
-    ensures { result.now ≡ put_ending answer }
-{
-    match answer {
-        Ok(()) => "set",
-        Err(fault) => fault.name(),
-    }
-}
-
 /// Appends the line of a `put` command.
 pub(crate) fn put_text<A: Allocator>(
     index: u64,
@@ -127,9 +131,12 @@ pub(crate) fn put_text<A: Allocator>(
 ) -> Result<(), AllocError>
     ensures { OnOk result (output.new.items ≡ output.old.items ++ put_line index value answer) }
 {
-    let end = put_ending(answer).as_bytes();
+    let end = match answer {
+        Ok(()) => "set",
+        Err(fault) => fault.name(),
+    };
     let mut text = Text::new();
-    push_parts!(text; b"put " => index, b" " => value; b" "; end; b"\n");
+    push_parts!(text; b"put " => index, b" " => value; b" "; end.as_bytes(); b"\n");
     output.extend_from_slice(text.as_slice())
 }
 

@@ -22,14 +22,14 @@ returns-in_err-console-clause-run g c =
 pub returns-in_err-console-clause-reads : goal.returns-in_err-console-clause-reads
 returns-in_err-console-clause-reads g c = nothing_read (g.R.Source.remaining c.args.reader.now)
 
-pub loop-lines-init : goal.loop-lines-init
-loop-lines-init g c =
-    let s = c.new-lines.result in
+pub loop-console-init : goal.loop-console-init
+loop-console-init g c =
+    let s = c.args.lines.now in
     record {
       answered =
           not_begun (g.R.Source.remaining c.args.reader.now) (g.W.Sink.contents c.args.writer.now) (g.C.Crew.answers c.args.crew.now) (opening c.args.settings) (state_of c.in_ok-console.console) (lines_read s) (is_at_end s) (octets_left s) c.in_ok-console.ensures
-          c.new-lines.ensures.number c.new-lines.ensures.held;
-      end = λ over. absurd (not_both (is_at_end s) c.new-lines.ensures.is_over over);
+          c.requires.number c.requires.held;
+      end = λ over. absurd (not_both (is_at_end s) c.requires.is_over over);
       within = nothing_read (g.R.Source.remaining c.args.reader.now);
       reads = refl;
       writes = refl;
@@ -39,25 +39,25 @@ pub returns-in_err-number-clause-run : goal.returns-in_err-number-clause-run
 returns-in_err-number-clause-run g c =
     let p = err_from_is_err_and c.from_residual-in_err-number.result c.from_residual-in_err-number.ensures.1 in
     let crew = g.C.Crew.answers c.args.crew.now in
-    let s = c.loop-lines.lines in
-    let state = state_of c.loop-lines.console in
+    let s = c.loop-console.lines in
+    let state = state_of c.loop-console.console in
     let h = c.in_err-number.ensures.lines in
     let e = c.in_err-number.field-0.0 in
-    rw (p.1, p.2) (run_failed _ _ _ _ _ _ crew (opening c.args.settings) state (lines_read s) (is_at_end s) (octets_left s) h.0 [] e h.2.0 c.loop-lines.invariant.answered h.1 (Appends-nil (g.W.Sink.contents c.loop-lines.writer))
+    rw (p.1, p.2) (run_failed _ _ _ _ _ _ crew (opening c.args.settings) state (lines_read s) (is_at_end s) (octets_left s) h.0 [] e h.2.0 c.loop-console.invariant.answered h.1 (Appends-nil (g.W.Sink.contents c.loop-console.writer))
     (λ more later ending _ r. no_next crew state (lines_read s) (octets_left s ++ h.0) e h.2.1 more later ending r))
 
 pub returns-in_err-shift-clause-run : goal.returns-in_err-shift-clause-run
 returns-in_err-shift-clause-run g c =
     let p = err_from_is_err_and c.from_residual-in_err-shift.result c.from_residual-in_err-shift.ensures.1 in
     let crew = g.C.Crew.answers c.args.crew.now in
-    let s = c.loop-lines.lines in
+    let s = c.loop-console.lines in
     let t = c.next.new.self in
-    let state = state_of c.loop-lines.console in
+    let state = state_of c.loop-console.console in
     let h = rw c.in-Some.is at c.in_ok-number.ensures.lines in
     let n = h.2.3 in
     let e = c.in_err-shift.field-0.0 in
-    rw (p.1, p.2) (line_failed _ _ _ _ _ _ crew (opening c.args.settings) state (lines_read s) (is_at_end s) (is_at_end t) (octets_left s) (octets_left t) h.0 (text_in t) [] e h.2.2 c.in_ok-number.ensures.end c.loop-lines.invariant.answered h.1 n
-    (Appends-nil (g.W.Sink.contents c.loop-lines.writer))
+    rw (p.1, p.2) (line_failed _ _ _ _ _ _ crew (opening c.args.settings) state (lines_read s) (is_at_end s) (is_at_end t) (octets_left s) (octets_left t) h.0 (text_in t) [] e h.2.2 c.in_ok-number.ensures.end c.loop-console.invariant.answered h.1 n
+    (Appends-nil (g.W.Sink.contents c.loop-console.writer))
     (λ lines later ending r.
     no_answer crew state (state_of c.answer.new.self) c.answer.new.self.output.items (lines_read s) c.in-Some.number n.line c.text.result.now e h.2.1 n.few n.short (n.is ∙ sym c.text.ensures) c.in_err-shift.ensures lines later ending r))
 
@@ -65,29 +65,29 @@ pub returns-in_err-console-2-clause-run : goal.returns-in_err-console-2-clause-r
 returns-in_err-console-2-clause-run g c =
     let p = err_from_is_err_and c.from_residual-in_err-console-2.result c.from_residual-in_err-console-2.ensures.1 in
     let crew = g.C.Crew.answers c.args.crew.now in
-    let s = c.loop-lines.lines in
+    let s = c.loop-console.lines in
     let t = c.next.new.self in
     let a = c.answer.new.self in
-    let state = state_of c.loop-lines.console in
+    let state = state_of c.loop-console.console in
     let h = rw c.in-Some.is at c.in_ok-number.ensures.lines in
     let n = h.2.3 in
     let e = c.in_err-console-2.field-0.0 in
     let asked = asked_of state (state_of a) a.output.items c.in-Some.number c.text.result.now c.in_ok-shift.field-0 c.in-Some-2.shift c.in-Some-2.is c.in_ok-shift.ensures in
-    rw (p.1, p.2) (line_failed _ _ _ _ _ _ crew (opening c.args.settings) state (lines_read s) (is_at_end s) (is_at_end t) (octets_left s) (octets_left t) h.0 (text_in t) [] e h.2.2 c.in_ok-number.ensures.end c.loop-lines.invariant.answered h.1 n
-    (Appends-nil (g.W.Sink.contents c.loop-lines.writer))
+    rw (p.1, p.2) (line_failed _ _ _ _ _ _ crew (opening c.args.settings) state (lines_read s) (is_at_end s) (is_at_end t) (octets_left s) (octets_left t) h.0 (text_in t) [] e h.2.2 c.in_ok-number.ensures.end c.loop-console.invariant.answered h.1 n
+    (Appends-nil (g.W.Sink.contents c.loop-console.writer))
     (λ lines later ending r. no_work crew state (state_of a) (lines_read s) n.line c.text.result.now c.in-Some-2.shift e n.few n.short (n.is ∙ sym c.text.ensures) asked c.in_err-console-2.ensures.refused lines later ending r))
 
-pub loop-lines-preserved : goal.loop-lines-preserved
-loop-lines-preserved g c =
+pub loop-console-preserved : goal.loop-console-preserved
+loop-console-preserved g c =
     let crew = g.C.Crew.answers c.args.crew.now in
-    let s = c.loop-lines.lines in
+    let s = c.loop-console.lines in
     let t = c.next.new.self in
     let a = c.answer.new.self in
     let m = c.match-branch-5.console in
-    let state = state_of c.loop-lines.console in
+    let state = state_of c.loop-console.console in
     let h = rw c.in-Some.is at c.in_ok-number.ensures.lines in
     let n = h.2.3 in
-    let inv = c.loop-lines.invariant in
+    let inv = c.loop-console.invariant in
     let text : List ℕ = c.text.result.now in
     let done : IsDone crew state text (state_of m) m.output.items = elim c.match-branch-5.branch [
       | in-Some-2+in_ok-console-2 w ↦ rw w.console-is (done_by_crew crew state (state_of a) _ a.output.items _ c.in-Some.number text c.in_ok-shift.field-0 w.in-Some-2.shift w.in-Some-2.is c.in_ok-shift.ensures w.in_ok-console-2.ensures.done)
@@ -108,11 +108,11 @@ pub returns-in_err-write_whole-clause-run : goal.returns-in_err-write_whole-clau
 returns-in_err-write_whole-clause-run g c =
     let p = err_from_is_err_and c.from_residual-in_err-write_whole.result c.from_residual-in_err-write_whole.ensures.1 in
     let crew = g.C.Crew.answers c.args.crew.now in
-    let s = c.loop-lines.lines in
+    let s = c.loop-console.lines in
     let t = c.next.new.self in
     let a = c.answer.new.self in
     let m = c.match-branch-5.console in
-    let state = state_of c.loop-lines.console in
+    let state = state_of c.loop-console.console in
     let h = rw c.in-Some.is at c.in_ok-number.ensures.lines in
     let n = h.2.3 in
     let text : List ℕ = c.text.result.now in
@@ -123,10 +123,25 @@ returns-in_err-write_whole-clause-run g c =
     ] in
     let said : IsDone crew state text (state_of m) c.as_slice.result.now = subst (λ (o : List ℕ). IsDone crew state text (state_of m) o) (sym c.as_slice.ensures.value) done in
     let sent = no_write _ _ crew state (state_of m) (lines_read s) n.line text c.as_slice.result.now e n.few n.short (n.is ∙ sym c.text.ensures) said c.in_err-write_whole.ensures.octets in
-    rw (p.1, p.2) (line_failed _ _ _ _ _ _ crew (opening c.args.settings) state (lines_read s) (is_at_end s) (is_at_end t) (octets_left s) (octets_left t) h.0 (text_in t) sent.0 e h.2.2 c.in_ok-number.ensures.end c.loop-lines.invariant.answered h.1 n sent.1 sent.2)
+    rw (p.1, p.2) (line_failed _ _ _ _ _ _ crew (opening c.args.settings) state (lines_read s) (is_at_end s) (is_at_end t) (octets_left s) (octets_left t) h.0 (text_in t) sent.0 e h.2.2 c.in_ok-number.ensures.end c.loop-console.invariant.answered h.1 n sent.1 sent.2)
 
 pub returns-clause-run : goal.returns-clause-run
 returns-clause-run g c =
-    let s = c.loop-lines.lines in
+    let s = c.loop-console.lines in
     let h = rw c.in_default.is at c.in_ok-number.ensures.lines in
-    script_ended _ _ _ _ _ (g.C.Crew.answers c.args.crew.now) (opening c.args.settings) (state_of c.loop-lines.console) (lines_read s) (is_at_end s) (octets_left s) h.0 c.loop-lines.invariant.answered h.1 h.2.0 h.2.1
+    script_ended _ _ _ _ _ (g.C.Crew.answers c.args.crew.now) (opening c.args.settings) (state_of c.loop-console.console) (lines_read s) (is_at_end s) (octets_left s) h.0 c.loop-console.invariant.answered h.1 h.2.0 h.2.1
+
+pub returns-in_err-number-clause-reads : goal.returns-in_err-number-clause-reads
+returns-in_err-number-clause-reads g c = let inv = c.loop-console.invariant in c.next.ensures.reads (g.R.Source.remaining c.args.reader.now) inv.answered.0 inv.answered.1 inv.answered.2 inv.within
+
+pub returns-in_err-shift-clause-reads : goal.returns-in_err-shift-clause-reads
+returns-in_err-shift-clause-reads g c = let inv = c.loop-console.invariant in c.next.ensures.reads (g.R.Source.remaining c.args.reader.now) inv.answered.0 inv.answered.1 inv.answered.2 inv.within
+
+pub returns-in_err-console-2-clause-reads : goal.returns-in_err-console-2-clause-reads
+returns-in_err-console-2-clause-reads g c = let inv = c.loop-console.invariant in c.next.ensures.reads (g.R.Source.remaining c.args.reader.now) inv.answered.0 inv.answered.1 inv.answered.2 inv.within
+
+pub returns-in_err-write_whole-clause-reads : goal.returns-in_err-write_whole-clause-reads
+returns-in_err-write_whole-clause-reads g c = let inv = c.loop-console.invariant in c.next.ensures.reads (g.R.Source.remaining c.args.reader.now) inv.answered.0 inv.answered.1 inv.answered.2 inv.within
+
+pub returns-clause-reads : goal.returns-clause-reads
+returns-clause-reads g c = let inv = c.loop-console.invariant in c.next.ensures.reads (g.R.Source.remaining c.args.reader.now) inv.answered.0 inv.answered.1 inv.answered.2 inv.within

@@ -7,8 +7,8 @@ use Rattle.ocp_lines.specs.Lines.{octets_left, lines_read, is_at_end}
 use Rattle.ocp_console.proofs.Scripts.{Answered}
 use Rattle.ocp_console.proofs.script.do_lines.Given as goal
 
-abbrev pub invariant-loop-lines : goal.invariant-loop-lines
-invariant-loop-lines g l = record {
+abbrev pub invariant-loop-console : goal.invariant-loop-console
+invariant-loop-console g l = record {
   answered :
       Answered (g.R.Source.remaining l.initial.reader) (g.R.Source.remaining l.reader) (g.W.Sink.contents l.initial.writer) (g.W.Sink.contents l.writer) (g.C.Crew.answers l.crew) (opening l.fn.settings) (state_of l.console) (lines_read l.lines)
       (is_at_end l.lines) (octets_left l.lines);
@@ -18,5 +18,5 @@ invariant-loop-lines g l = record {
   writes : g.W.Sink.failed_writes l.writer ≡ g.W.Sink.failed_writes l.initial.writer;
 }
 
-abbrev pub decreases-loop-lines : goal.decreases-loop-lines
-decreases-loop-lines g l = 100001 - lines_read l.lines
+abbrev pub decreases-loop-console : goal.decreases-loop-console
+decreases-loop-console g l = 100001 - lines_read l.lines

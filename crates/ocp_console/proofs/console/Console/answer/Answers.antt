@@ -13,8 +13,11 @@ asks_for : (state : State) (line : List ℕ) (said : Meaning) (effect : Effect) 
 unfolding respond
 asks_for state line said effect says is = ap (response state) (sym says) ∙ ap Some (sym is)
 
-pub returns : goal.returns
-returns g c = (asks_for (state_of c.args.self.now) c.args.line.now _ _ (rw c.in-Some.is at c.in_ok-command.ensures.command) c.in_ok-obey.ensures.effect, c.in_ok-obey.ensures.kept)
+pub returns-in-Some-Work : goal.returns-in-Some-Work
+returns-in-Some-Work g c = (asks_for (state_of c.args.self.now) c.args.line.now _ _ (rw c.in-Some-Work.field-0-is at (rw c.in-Some-Work.is at c.in_ok-read_command.ensures.command)) refl, refl)
 
-pub returns-in_default : goal.returns-in_default
-returns-in_default g c = (refl, asks_nothing (state_of c.args.self.now) c.args.line.now (rw c.in_default.is at c.in_ok-command.ensures.command))
+pub returns : goal.returns
+returns g c = (asks_for (state_of c.args.self.now) c.args.line.now _ _ (rw c.in-Some.is at c.in_ok-read_command.ensures.command) c.in_ok-obey-in-Some.ensures, tt)
+
+pub returns-in-None : goal.returns-in-None
+returns-in-None g c = (refl, asks_nothing (state_of c.args.self.now) c.args.line.now (rw c.in-None.is at c.in_ok-read_command.ensures.command))
