@@ -1,14 +1,21 @@
 -- A slice whose first instruction event is refused.
-use Rattle.std.proofs.Common.{◌≡◌, ◌≤◌, ℕ, zero, suc, Bool, true, false, cond, replicate, inl, inr, refl, sym, ap, ◌∙◌, arith}
-use Rattle.std.specs.Prelude.{◌⊎◌}
+use Rattle.std.proofs.Common.{◌≡◌, ◌≤◌, ℕ, zero, suc, Bool, true, false, cond, List, Option, Some, None, replicate, inl, inr, refl, sym, ap, subst, ◌∙◌, arith}
+use Rattle.std.specs.Prelude.{◌⊎◌, Result, Ok, Err}
+use Rattle.std.specs.Result.{result_err}
 use Rattle.std.specs.FinMap.{get}
 use Rattle.ocp_table.specs.declared.answers.StepOutcome.{StepOutcome}
 use Rattle.ocp_table.specs.declared.answers.StepOutcome.TheVariants as S
+use Rattle.ocp_table.specs.RequestTable as directive
+use Rattle.ocp_table.specs.Deciding.{effect_in}
+use Rattle.ocp_table.specs.Effects.{refusal_of}
+use Rattle.ocp_world.specs.declared.state.State.{State}
 use Rattle.ocp_world.specs.World.{World, Step}
-use Rattle.ocp_world.specs.After.{after, is_accepted, is_done}
+use Rattle.ocp_world.specs.After.{Stepped, after, is_accepted, is_done}
+use Rattle.ocp_world.specs.Mirror.Answering.{IsRefusal as IsRefusedAs}
+use Rattle.ocp_world.specs.Mirror.State.{IsWorld}
 use Rattle.ocp_world.specs.Replay.{replay_from}
 use Rattle.ocp_world.specs.Slice.{goes_on, is_on, is_running, next_outcome, slice_count, slice_last}
-use Rattle.ocp_world.proofs.Refusals.{refused_keeps}
+use Rattle.ocp_world.proofs.Refusals.{refused_keeps, refused_so}
 
 off : (o : StepOutcome) → is_done o ≡ false → is_on o ≡ false
 off S.Ran refused = absurd (cc)
@@ -65,3 +72,14 @@ module _ (w : World) (by id : ℕ) where
 
     pub is_done_of : (o ≡ S.NotLoaded → ⊥) → (o ≡ S.NotRunning → ⊥) → (o ≡ S.JournalFull → ⊥) → is_done o ≡ true
     is_done_of = done o
+
+-- the first instruction is refused in the world as in the table
+module _ {A : Type 0} (w : World) (s : State A) (by id : ℕ) (stands : IsWorld w s) (r : Result (Unit {0}) StepOutcome) (told : (pool : List ℕ) → result_err r ≡ refusal_of (effect_in (directive.Step pool) id s.table.records)) where
+  as_told : (o : Option StepOutcome) → result_err r ≡ o → IsRefusedAs (after w (Step by id)).answer o
+  as_told o is = subst (IsRefusedAs (after w (Step by id)).answer) is (refused_so s.table.records by id w stands.records (result_err r) told)
+
+  pub runs_so : (u : Unit {0}) → r ≡ Ok u → is_accepted (after w (Step by id)).answer ≡ true
+  runs_so u is = as_told None (ap result_err is)
+
+  pub refuses_so : (o : StepOutcome) → r ≡ Err o → (is_accepted (after w (Step by id)).answer ≡ false) × (Stepped o ≡ (after w (Step by id)).answer)
+  refuses_so o is = as_told (Some o) (ap result_err is)

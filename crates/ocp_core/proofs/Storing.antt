@@ -60,6 +60,9 @@ module _ {S : Type 0} (log : S → Log) (is_full : S → Entry → Bool) (with_o
     pub refused_slice_store : begun ≡ false → s ≡ slice_store log is_full with_one s by id budget
     refused_slice_store = refused_left begun (is_full s (Steps by id 1)) s sliced
 
+    pub full_slice_store : begun ≡ true → is_full s (Steps by id 1) ≡ true → s ≡ slice_store log is_full with_one s by id budget
+    full_slice_store = full_left begun (is_full s (Steps by id 1)) s sliced
+
     pub done_slice_store : (new : S) (n : ℕ) → begun ≡ true → is_full s (Steps by id 1) ≡ false → n ≡ slice_count (world_of (log s)) by id budget → new ≡ with_one s (Steps by id n) → new ≡ slice_store log is_full with_one s by id budget
     done_slice_store new n is room count same = done_left begun (is_full s (Steps by id 1)) s sliced new is room (same ∙ ap (λ k. with_one s (Steps by id k)) count)
 
@@ -115,6 +118,9 @@ module _ (full : Bool) (w : World) (by id budget : ℕ) where
 
   pub refused_slice_at : (o : StepOutcome) → is_accepted first ≡ false → Stepped o ≡ first → none o ≡ slice_with full w by id budget
   refused_slice_at o refused is = ap none (same_outcome o (next_outcome w id) is) ∙ ap (λ b. cond b (cond full (none S.JournalFull) whole) (none (next_outcome w id))) (sym refused)
+
+  pub full_slice_at : is_accepted first ≡ true → full ≡ true → none S.JournalFull ≡ slice_with full w by id budget
+  full_slice_at taken no_room = ap (λ b. cond b (none S.JournalFull) whole) (sym no_room) ∙ ap (λ b. cond b (cond full (none S.JournalFull) whole) (none (next_outcome w id))) (sym taken)
 
   pub done_slice_at : (s : Slice) → is_accepted first ≡ true → full ≡ false → s.count ≡ slice_count w by id budget → s.last ≡ slice_last w by id S.Ran budget → s ≡ slice_with full w by id budget
   done_slice_at s taken room count last = (λ i. record { count = count i; last = last i }) ∙ ap (λ b. cond b (none S.JournalFull) whole) (sym room) ∙ ap (λ b. cond b (cond full (none S.JournalFull) whole) (none (next_outcome w id))) (sym taken)

@@ -44,17 +44,14 @@ pub fn instructions<S: Store, A: Allocator>(
     // Without room none is done, and only the refusal is looked for.
     if store.is_full(&Note::Steps { by, id, count: 1 }) {
         let place = state.table.place(id);
-        return match state.table.running(id, place) {
-            Ok(()) => Round {
-                count: 0,
-                last: StepOutcome::JournalFull,
-                step: None,
-            },
-            Err(last) => Round {
-                count: 0,
-                last,
-                step: None,
-            },
+        let last = match state.table.running(id, place) {
+            Ok(()) => StepOutcome::JournalFull,
+            Err(refusal) => refusal,
+        };
+        return Round {
+            count: 0,
+            last,
+            step: None,
         };
     }
     let round = state.instructions(id, budget, extent);

@@ -65,9 +65,9 @@ impl<A: Allocator + Copy> Engine<A> {
         ensures { IfOk result (λ engine. engine ≡ empty_log profile apid words capacity) }
     {
         let apid = Apid::new(apid).unwrap();
-        let state = State::new(alloc, profile, apid, words)?;
-        let journal = Journal::new(alloc, profile, apid, words, capacity)?;
         let packets = PacketBuffer::new(alloc)?;
+        let journal = Journal::new(alloc, profile, apid, words, capacity)?;
+        let state = State::new(alloc, profile, apid, words)?;
         Ok(Engine {
             journal,
             state,

@@ -186,59 +186,57 @@ impl<A: Allocator> Entry<A> {
     pub fn is_same(&self, other: &Self) -> bool
         ensures { IsTrue result ↔ (entry_with_mark self.now ≡ entry_with_mark other.now) }
     {
+        if self.by() != other.by() {
+            return false;
+        }
         if let (Some(asked), Some(other_asked)) = (self.command(), other.command()) {
-            return self.by() == other.by() && asked == other_asked;
+            return asked == other_asked;
         }
         match (self, other) {
             (
                 Entry::Request {
-                    by,
                     time,
                     octets,
                     mark,
+                    ..
                 },
                 Entry::Request {
-                    by: other_by,
                     time: other_time,
                     octets: other_octets,
                     mark: other_mark,
+                    ..
                 },
-            ) => {
-                by == other_by
-                    && time == other_time
-                    && octets.is_same(other_octets)
-                    && mark.is_same(other_mark)
-            }
+            ) => time == other_time && octets.is_same(other_octets) && mark.is_same(other_mark),
             (
                 Entry::Steps {
-                    by,
                     id,
                     count,
                     mark,
+                    ..
                 },
                 Entry::Steps {
-                    by: other_by,
                     id: other_id,
                     count: other_count,
                     mark: other_mark,
+                    ..
                 },
-            ) => by == other_by && id == other_id && count == other_count && mark == other_mark,
+            ) => id == other_id && count == other_count && mark == other_mark,
             (
-                Entry::Drain { by, time, mark },
+                Entry::Drain { time, mark, .. },
                 Entry::Drain {
-                    by: other_by,
                     time: other_time,
                     mark: other_mark,
+                    ..
                 },
-            ) => by == other_by && time == other_time && mark.is_same(other_mark),
+            ) => time == other_time && mark.is_same(other_mark),
             (
-                Entry::PutWord { by, index, value },
+                Entry::PutWord { index, value, .. },
                 Entry::PutWord {
-                    by: other_by,
                     index: other_index,
                     value: other_value,
+                    ..
                 },
-            ) => by == other_by && index == other_index && value == other_value,
+            ) => index == other_index && value == other_value,
             _ => false,
         }
     }

@@ -1,7 +1,7 @@
 //! One procedure of a journal, by itself.
 
 ghost use Rattle.std.specs.Prelude.{◌≡◌, ◌≤◌, ◌<◌, ℕ, IfOk, replicate};
-ghost use Rattle.ocp_world.specs.World.{Drain};
+ghost use Rattle.ocp_world.specs.World.{Drain, opening};
 ghost use Rattle.ocp_world.specs.Mirror.State.{IsWorld};
 ghost use Rattle.ocp_core.specs.Clauses.{MAX_APID, Put, Step, World, after, alone_after, entry_of, events_of, expand, get, machine_of, replay_from, world_of};
 
@@ -80,6 +80,24 @@ fn enter<A: Allocator, B: Allocator>(
     }
 }
 
+// Does the events of all entries of a journal, from the world that it opens with.
+fn enter_all<A: Allocator, B: Allocator>(
+    state: &mut State<A>,
+    journal: &Journal<B>,
+    packets: &mut PacketBuffer<A>,
+)
+    requires { IsWorld (opening journal.now.profile journal.now.apid journal.now.words) state.old }
+    ensures { IsWorld (world_of journal.now) state.new }
+{
+    let apid = journal.apid();
+    let entries = journal.entries();
+    let mut event: u64 = 0;
+    for entry in entries {
+        enter(state, apid, event, entry, packets);
+        event += entry.events();
+    }
+}
+
 /// The machine of a procedure at the end of a journal, if it is loaded there. It is the machine of
 /// the journal's replay, and the one that its image and its own events make: its starts, its
 /// instructions, and the answers to its engine calls. It is refused only for memory.
@@ -95,14 +113,8 @@ pub fn replay_one<A: Allocator + Copy, B: Allocator>(
         (expand journal.now.entries) id) }
 {
     machines_follow_from_their_own_events();
-    let apid = journal.apid();
-    let entries = journal.entries();
-    let mut state = State::new(alloc, journal.profile(), apid, journal.words())?;
     let mut packets = PacketBuffer::new(alloc)?;
-    let mut event: u64 = 0;
-    for entry in entries {
-        enter(&mut state, apid, event, entry, &mut packets);
-        event += entry.events();
-    }
+    let mut state = State::new(alloc, journal.profile(), journal.apid(), journal.words())?;
+    enter_all(&mut state, journal, &mut packets);
     state.machine(alloc, id)
 }

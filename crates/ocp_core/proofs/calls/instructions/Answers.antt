@@ -11,9 +11,43 @@ use Rattle.ocp_core.proofs.Marking.{slice_mark}
 use Rattle.ocp_core.proofs.Counting.{counted_steps}
 use Rattle.ocp_core.proofs.Growing.{slice_count_some, slice_count_within}
 use Rattle.ocp_core.proofs.Rounds.{most_some, most_few, rounded}
-use Rattle.ocp_core.proofs.Storing.{refused_slice_store, done_slice_store, refused_slice_at, done_slice_at, IsWorld-pushed}
-use Rattle.ocp_core.proofs.Refused.{is_refused, is_taken, is_done_of, refused_last, refused_world}
+use Rattle.ocp_core.proofs.Storing.{refused_slice_store, full_slice_store, done_slice_store, refused_slice_at, full_slice_at, done_slice_at, IsWorld-pushed}
+use Rattle.ocp_core.proofs.Refused.{is_refused, is_taken, is_done_of, refused_last, refused_world, runs_so, refuses_so}
 use Rattle.ocp_core.proofs.calls.instructions.Goals as goal
+
+pub returns-in-Ok-clause-slice : goal.returns-in-Ok-clause-slice
+returns-in-Ok-clause-slice g c =
+    let w : World = world_of (g.S.Store.log c.args.store.now) in
+    let most : ℕ = most_events c.args.extent w c.args.by c.args.id c.args.budget in
+    let taken = runs_so w c.args.state.now c.args.by c.args.id c.requires.stands c.running.result c.running.ensures.effect _ c.in-Ok.is in
+    full_slice_at _ w c.args.by c.args.id most taken (sym c.is_full.ensures ∙ c.if-is_full.true)
+
+pub returns-in-Ok-clause-round : goal.returns-in-Ok-clause-round
+returns-in-Ok-clause-round g c is = rounded _ c.args.extent _ c.args.by c.args.id c.args.budget _ is (returns-in-Ok-clause-slice g c) refl
+
+pub returns-in-Ok-clause-store : goal.returns-in-Ok-clause-store
+returns-in-Ok-clause-store g c =
+    let w : World = world_of (g.S.Store.log c.args.store.now) in
+    let most : ℕ = most_events c.args.extent w c.args.by c.args.id c.args.budget in
+    let taken = runs_so w c.args.state.now c.args.by c.args.id c.requires.stands c.running.result c.running.ensures.effect _ c.in-Ok.is in
+    full_slice_store g.S.Store.log g.S.Store.is_full g.S.Store.with_entry c.args.store.now c.args.by c.args.id most taken (sym c.is_full.ensures ∙ c.if-is_full.true)
+
+pub returns-in-Err-clause-slice : goal.returns-in-Err-clause-slice
+returns-in-Err-clause-slice g c =
+    let w : World = world_of (g.S.Store.log c.args.store.now) in
+    let most : ℕ = most_events c.args.extent w c.args.by c.args.id c.args.budget in
+    let refused = refuses_so w c.args.state.now c.args.by c.args.id c.requires.stands c.running.result c.running.ensures.effect c.in-Err.refusal c.in-Err.is in
+    refused_slice_at _ w c.args.by c.args.id most c.in-Err.refusal refused.0 refused.1
+
+pub returns-in-Err-clause-round : goal.returns-in-Err-clause-round
+returns-in-Err-clause-round g c is = rounded _ c.args.extent _ c.args.by c.args.id c.args.budget _ is (returns-in-Err-clause-slice g c) refl
+
+pub returns-in-Err-clause-store : goal.returns-in-Err-clause-store
+returns-in-Err-clause-store g c =
+    let w : World = world_of (g.S.Store.log c.args.store.now) in
+    let most : ℕ = most_events c.args.extent w c.args.by c.args.id c.args.budget in
+    let refused = refuses_so w c.args.state.now c.args.by c.args.id c.requires.stands c.running.result c.running.ensures.effect c.in-Err.refusal c.in-Err.is in
+    refused_slice_store g.S.Store.log g.S.Store.is_full g.S.Store.with_entry c.args.store.now c.args.by c.args.id most refused.0
 
 pub returns-in-NotLoaded-clause-slice : goal.returns-in-NotLoaded-clause-slice
 returns-in-NotLoaded-clause-slice g c =

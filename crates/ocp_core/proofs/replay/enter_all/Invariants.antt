@@ -4,7 +4,7 @@ use Rattle.ocp_world.specs.Replay.{replay}
 use Rattle.ocp_world.specs.Mirror.State.{IsWorld}
 use Rattle.ocp_core.specs.Log.{expand}
 use Rattle.ocp_core.specs.Journal.{entry_of}
-use Rattle.ocp_core.proofs.replay.replay_one.Given as goal
+use Rattle.ocp_core.proofs.replay.enter_all.Given as goal
 
 -- the state is the replay of the entries so far, whose events are counted
 abbrev pub invariant-loop-entry : goal.invariant-loop-entry
