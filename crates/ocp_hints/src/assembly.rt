@@ -4,11 +4,11 @@ ghost use Rattle.std.specs.Prelude.{IfSome};
 ghost use Rattle.ocp_hints.specs.Columns.{IsWithin};
 
 use crate::hint::{Hint, Mark, Result, Shown, Table, front_of, mark_at, text_on};
-use crate::image::sentence_of;
+use crate::image::mark_of_fault;
 use crate::line::{self, Line, MARKS, Reader, line_at, word_of};
 use bpf_assembler::{AsmFault, Why, assemble};
 use bpf_canonical::read_mnemonic;
-use bpf_text::read_line;
+use bpf_text::{LineFault, read_line};
 use ocp_loader::LoadFault;
 use ocp_profile::Profile;
 use std::alloc::Global;
@@ -55,8 +55,7 @@ const NO_LABEL: &[u8] = b"a label is a letter or _, then letters, digits and _, 
 
 /// What to write in place of a word that is no mnemonic.
 fn sentence_on_stray(alloc: Global, word: &[u8]) -> Result<&'static [u8]> {
-    let with_width = format!(in alloc; "{}64", Shown(word))?;
-    if read_mnemonic(with_width.as_bytes()).is_some() {
+    if read_mnemonic(&[word, b"64"].concat(alloc)?).is_some() {
         return Ok(b"the width, 64 or 32, is a part of the mnemonic: add64, jeq32");
     }
     let text = text_on(word, STRAYS).or(text_on(word, line::STRAYS));
@@ -87,33 +86,40 @@ fn mark_of_syntax(line: Line<'_>) -> Result<Mark> {
             return Ok((column, format!(in line.alloc; "{mnemonic} {form}")?));
         }
     };
-    mark_at(line.alloc, column, sentence)
+    mark_at(line.alloc, column, &Shown(sentence))
 }
 
 /// What was out of its range in a line.
 fn mark_of_range(line: Line<'_>) -> Result<Mark> {
-    let (_, example, count) = line.best_form(FORMS)?;
+    let reader = Reader::Assembler(LineFault::Range);
+    let (_, example, count) = Line { reader, ..line }.best_form(FORMS)?;
     let sentence = text_on(word_of(example, count.saturating_sub(1)), RANGES).unwrap_or(&[]);
-    mark_at(line.alloc, line.at(count).0.min(line.last()), sentence)
+    let column = line.at(count).0.min(line.last());
+    mark_at(line.alloc, column, &Shown(sentence))
+}
+
+/// What was unexpected in a line, of which the first word is at `label`.
+fn mark_of_line(line: Line<'_>, label: usize, why: &Why) -> Result<Mark> {
+    let (alloc, front) = (line.alloc, front_of(line.text, line.begin));
+    match why {
+        Why::Syntax if read_line(front).is_err() => mark_at(alloc, label, &Shown(NO_LABEL)),
+        Why::Syntax => mark_of_syntax(line),
+        Why::Range => mark_of_range(line),
+        Why::DuplicateLabel => mark_at(alloc, label, why),
+        Why::UnknownLabel => mark_at(alloc, line.last(), why),
+        Why::Load(LoadFault::Decode(fault, _)) => mark_of_fault(alloc, line.at(1).0, fault),
+        Why::Load(fault @ LoadFault::FallsOffEnd(_)) => mark_of_fault(alloc, line.begin, fault),
+        Why::Load(fault) => mark_of_fault(alloc, line.last(), fault),
+    }
 }
 
 /// What was unexpected in a line of assembly text.
-fn mark_of_line(alloc: Global, text: &[u8], why: Why) -> Result<Mark> {
-    let line = Line::new(alloc, Reader::Assembler(why), text);
+fn mark_of_text(alloc: Global, text: &[u8], why: &Why) -> Result<Mark> {
+    let line = Line::new(alloc, Reader::Assembler(LineFault::Syntax), text);
     let (label, _) = line.at(0);
     let has_label = line.at(1).1 == b":".as_slice();
     let (begin, _) = line.at(if has_label { 2 } else { 0 });
-    let line = Line { begin, ..line };
-    match why {
-        Why::Syntax if read_line(front_of(text, begin)).is_err() => mark_at(alloc, label, NO_LABEL),
-        Why::Syntax => mark_of_syntax(line),
-        Why::Range => mark_of_range(line),
-        Why::DuplicateLabel => Ok((label, format!(in alloc; "{why}")?)),
-        Why::UnknownLabel => Ok((line.last(), format!(in alloc; "{why}")?)),
-        Why::Load(LoadFault::Decode(fault, _)) => Ok((line.at(1).0, sentence_of(alloc, &fault)?)),
-        Why::Load(fault @ LoadFault::FallsOffEnd(_)) => Ok((begin, sentence_of(alloc, &fault)?)),
-        Why::Load(fault) => Ok((line.last(), sentence_of(alloc, &fault)?)),
-    }
+    mark_of_line(Line { begin, ..line }, label, why)
 }
 
 /// What was unexpected in an assembly text under a profile; None if nothing was, or if memory is
@@ -126,5 +132,5 @@ pub fn hint_on_text<'a>(alloc: Global, profile: Profile, text: &'a [u8]) -> Opti
     };
     let line = line_at(text, number);
     let place = (number != 0).then_some(("line", number));
-    Some(Hint::new(place, line, mark_of_line(alloc, line, why).ok()?))
+    Some(Hint::new(place, line, mark_of_text(alloc, line, &why).ok()?))
 }

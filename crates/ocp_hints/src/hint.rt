@@ -3,7 +3,7 @@
 ghost use Rattle.ocp_hints.specs.Columns.{IsWithin};
 
 use std::alloc::{AllocError, Global};
-use std::fmt;
+use std::fmt::{self, Display};
 
 /// The most octets that are shown of a line before the mark or of a word, and of a line.
 pub(crate) const SHOWN_BEFORE: usize = 60;
@@ -43,8 +43,8 @@ pub(crate) fn front_of(octets: &[u8], most: usize) -> &[u8] {
 }
 
 /// A mark with a sentence that no word of the line changes.
-pub(crate) fn mark_at(alloc: Global, column: usize, sentence: &[u8]) -> Result<Mark> {
-    Ok((column, format!(in alloc; "{}", Shown(sentence))?))
+pub(crate) fn mark_at<S: Display>(alloc: Global, column: usize, sentence: &S) -> Result<Mark> {
+    Ok((column, format!(in alloc; "{sentence}")?))
 }
 
 /// The keys of a row, and its text.
@@ -56,7 +56,7 @@ pub(crate) fn sides(row: &[u8]) -> (&[u8], &[u8]) {
 }
 
 /// The text of the first row with a key for these octets.
-pub(crate) fn text_on(octets: &[u8], table: Table) -> Option<&'static [u8]> {
+pub(crate) fn text_on<'a>(octets: &[u8], table: &'a [u8]) -> Option<&'a [u8]> {
     for row in table.split(|octet| *octet == b'\n') {
         let (keys, text) = sides(row);
         for key in keys.split(|octet| *octet == b'|') {
@@ -86,7 +86,7 @@ impl<'a> Hint<'a> {
     }
 }
 
-impl fmt::Display for Shown<'_> {
+impl Display for Shown<'_> {
     fn fmt<W: fmt::Write>(&self, f: &mut fmt::Formatter<W>) -> fmt::Result {
         for octet in self.0 {
             let is_shown = matches!(octet, b' '..=b'~');
@@ -96,7 +96,7 @@ impl fmt::Display for Shown<'_> {
     }
 }
 
-impl fmt::Display for Hint<'_> {
+impl Display for Hint<'_> {
     fn fmt<W: fmt::Write>(&self, f: &mut fmt::Formatter<W>) -> fmt::Result {
         match self.place {
             Some((name, number)) => writeln!(f, "{name} {number}: {}", self.sentence)?,

@@ -3,11 +3,11 @@
 ghost use Rattle.std.specs.Prelude.{IfSome};
 ghost use Rattle.ocp_hints.specs.Columns.{IsWithin};
 
-use crate::hint::{Hint, Mark, Result, Table, front_of, mark_at, text_on};
+use crate::hint::{Hint, Mark, Result, Shown, Table, front_of, mark_at, text_on};
 use bpf_decode::{DecodeFault, decode_at};
 use bpf_listing::{DisassembleFault, disassemble};
 use std::alloc::Global;
-use std::fmt::{Debug, Display};
+use std::error::Error;
 use text_lines::octets_of;
 
 /// The number of digits of a slot.
@@ -23,23 +23,23 @@ static MARKS: Table = b"\t..: this is a tab, and digits are in one row
 \x7fELF..: this is an ELF file: examples/c/build makes the image of one
 \r..: this is a carriage return, and a newline alone may end the digits";
 
-/// The name of a fault of an image, and what it means.
-pub(crate) fn sentence_of<F: Debug + Display>(alloc: Global, fault: &F) -> Result<String> {
+/// A mark with the name of a fault of an image, and what it means.
+pub(crate) fn mark_of_fault<F: Error>(alloc: Global, column: usize, fault: &F) -> Result<Mark> {
     let shown = format!(in alloc; "{fault:?}")?;
     let name = shown.as_str().split('(').next().unwrap_or("");
-    format!(in alloc; "{name}: {fault}")
+    Ok((column, format!(in alloc; "{name}: {fault}")?))
 }
 
 /// What was unexpected in digits that spell no octets: the first octet that is no digit, or what no
 /// image may have from the digit before it on.
 fn mark_of_digits(alloc: Global, digits: &[u8]) -> Result<Mark> {
     let Some(end) = digits.iter().position(|octet| !octet.is_ascii_hexdigit()) else {
-        return mark_at(alloc, digits.len(), ODD);
+        return mark_at(alloc, digits.len(), &Shown(ODD));
     };
     for column in [end.saturating_sub(1), end] {
         let rest = digits.get(column..).unwrap_or(&[]);
         if let Some(sentence) = text_on(rest, MARKS) {
-            return mark_at(alloc, column, sentence);
+            return mark_at(alloc, column, &Shown(sentence));
         }
     }
     let sentence: &[u8] = match digits[end] {
@@ -47,7 +47,7 @@ fn mark_of_digits(alloc: Global, digits: &[u8]) -> Result<Mark> {
         b'!'..=b'~' => b"this is no hexadecimal digit; an assembly text goes to asm",
         _ => b"this is a raw image: od -An -v -tx1 | tr -d ' \\n' makes digits of it",
     };
-    mark_at(alloc, end, sentence)
+    mark_at(alloc, end, &Shown(sentence))
 }
 
 /// The number of digits of an instruction before the field at fault: the first with which the
@@ -70,18 +70,19 @@ fn column_of_fault(code: &[u8], fault: DecodeFault) -> usize {
 /// The slot at fault in an image, and the mark in its digits; None if no slot is, or if memory is
 /// refused.
 fn mark_of_image(alloc: Global, image: &[u8]) -> Option<(usize, Mark)> {
-    match disassemble(image, &mut Vec::new(alloc)) {
-        Ok(()) | Err(DisassembleFault::Memory) => None,
+    let (slot, mark) = match disassemble(image, &mut Vec::new(alloc)) {
+        Ok(()) | Err(DisassembleFault::Memory) => return None,
         Err(DisassembleFault::Ragged) => {
-            let mark = mark_at(alloc, SLOT_DIGITS, b"an image is whole slots of 16 digits");
-            Some((image.len() / 8, mark.ok()?))
+            let sentence = Shown(b"an image is whole slots of 16 digits");
+            (image.len() / 8, mark_at(alloc, SLOT_DIGITS, &sentence))
         }
         Err(DisassembleFault::Decode(fault, slot)) => {
             let code = image.get(slot.saturating_mul(8)..).unwrap_or(&[]);
-            let sentence = sentence_of(alloc, &fault).ok()?;
-            Some((slot, (column_of_fault(code, fault), sentence)))
+            let column = column_of_fault(code, fault);
+            (slot, mark_of_fault(alloc, column, &fault))
         }
-    }
+    };
+    Some((slot, mark.ok()?))
 }
 
 /// What was unexpected in the digits of an image, which spaces and newlines may follow; None if

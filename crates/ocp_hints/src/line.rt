@@ -2,7 +2,6 @@
 //! example, one after another, and the reader is asked each time.
 
 use crate::hint::{Result, Table, front_of, sides};
-use bpf_assembler::Why;
 use bpf_text::{LineFault, Scan, next_token, read_line};
 use ocp_lines::{next_word, read_command};
 use ocp_profile::Profile;
@@ -32,7 +31,7 @@ this is C: examples/c/build makes the image of a C text";
 #[derive(Clone, Copy)]
 pub(crate) enum Reader {
     Console(Profile),
-    Assembler(Why),
+    Assembler(LineFault),
 }
 
 /// What may follow the first word of a line, an example of it, and the number of words of the line
@@ -127,7 +126,7 @@ impl<'a> Line<'a> {
             }
             Reader::Assembler(why) => match read_line(&line) {
                 Ok(_) => Ok(false),
-                Err(fault) => Ok(count == 0 || why == Why::Range || fault == LineFault::Syntax),
+                Err(fault) => Ok(count == 0 || why == LineFault::Range || fault == why),
             },
         }
     }

@@ -62,7 +62,7 @@ fn sentence_on_rest(verb: &[u8], form: &[u8], is_octets: bool, word: &[u8]) -> &
         _ if is_octets && !are_digits => b"octets are hexadecimal digits only",
         _ if is_octets && word.len() % 2 == 0 => b"arguments have at most 256 octets",
         [b'#' | b';' | b'/', ..] => b"a comment is a line of its own",
-        _ if matches!((verb, form), (b"activate", b" <id> [<hex>]")) => BUDGET,
+        _ if verb == b"activate".as_slice() && form == b" <id> [<hex>]".as_slice() => BUDGET,
         _ if is_octets => ODD,
         _ => b"nothing more may stand here",
     }
@@ -75,33 +75,28 @@ fn mark_of_form(line: Line<'_>, head: &str, verb: &[u8], fit: Fit) -> Result<Mar
     let ((column, word), part) = (line.at(count), word_of(form, count));
     let takes_zero = !line.refuses(count, (column, b"0"), example)?;
     let digits = match word {
-        [b'0', b'x' | b'X', ..] => ", in decimal digits",
-        _ => "",
+        [b'0', b'x' | b'X', ..] => ", in decimal digits, found ",
+        _ => ", found ",
     };
-    let rest = Shown(sentence_on_rest(verb, form, part.starts_with(b"["), word));
-    let (verb, form, found) = (Shown(verb), Shown(form), front_of(word, SHOWN_BEFORE));
-    let (most, found) = (
-        Shown(word_of(example, count.saturating_sub(1))),
-        Shown(found),
-    );
-    let sentence = match (text_on(part, PARTS), part) {
-        _ if word.is_empty() => format!(in alloc; "{} is missing", Shown(part)),
-        _ if count == 0 => format!(in alloc; "lines are in lower case: {verb}"),
-        (Some(what), _) => format!(in alloc; "{}, found {found}", Shown(what)),
-        (None, [b'<', name @ .., b'>']) => {
-            let (name, least) = (Shown(name), u8::from(!takes_zero));
-            format!(in alloc; "{name} is {least} to {most}{digits}, found {found}")
-        }
-        // The part `..` is for more numbers.
-        (None, _) if takes_zero => {
-            format!(in alloc; "number is 0 to {}{digits}, found {found}", u64::MAX)
-        }
-        (None, _) => format!(in alloc; "{rest}"),
+    let (name, most): (&[u8], &[u8]) = match part {
+        [b'<', name @ .., b'>'] => (name, word_of(example, count.saturating_sub(1))),
+        // The part `..` is for more numbers, each of 64 bits.
+        _ => (b"number", b"18446744073709551615"),
     };
-    Ok((
-        column,
-        format!(in alloc; "{head}{verb}{form}: {}", sentence?)?,
-    ))
+    let (known, found) = (text_on(part, PARTS), front_of(word, SHOWN_BEFORE));
+    let rest = sentence_on_rest(verb, form, part.starts_with(b"["), word);
+    let (what, is, most, then, found): (&[u8], &str, &[u8], &str, &[u8]) = match known {
+        _ if word.is_empty() => (part, " is missing", b"", "", b""),
+        _ if count == 0 => (b"lines are in lower case", ": ", verb, "", b""),
+        Some(what) => (what, "", b"", ", found ", found),
+        None if takes_zero => (name, " is 0 to ", most, digits, found),
+        None if part.starts_with(b"<") => (name, " is 1 to ", most, digits, found),
+        None => (rest, "", b"", "", b""),
+    };
+    let (verb, form, what) = (Shown(verb), Shown(form), Shown(what));
+    let (most, found) = (Shown(most), Shown(found));
+    let sentence = format!(in alloc; "{head}{verb}{form}: {what}{is}{most}{then}{found}")?;
+    Ok((column, sentence))
 }
 
 /// The sentence for a word that begins no line.
@@ -120,9 +115,9 @@ fn sentence_on_stray(word: &[u8]) -> &'static [u8] {
 /// and the flags are missing, the form is that of the line with them.
 fn mark_of_words(line: Line<'_>, text: &[u8]) -> Result<Mark> {
     let (lower, head) = (Line { text, ..line }, b"send 0 ".as_slice());
-    let request = match (line.at(0), line.at(2)) {
-        ((_, b"send"), (begin, _)) => Line { begin, ..lower },
-        _ => Line { head, ..lower },
+    let request = match (line.at(0).1 == b"send".as_slice(), line.at(2)) {
+        (true, (begin, _)) => Line { begin, ..lower },
+        (false, _) => Line { head, ..lower },
     };
     let ((column, word), (_, verb)) = (lower.at(0), request.at(0));
     match (request.best_form(REQUESTS)?, lower.best_form(FORMS)?) {
@@ -135,7 +130,7 @@ fn mark_of_words(line: Line<'_>, text: &[u8]) -> Result<Mark> {
             let (verb, form) = (Shown(verb), Shown(form));
             Ok((column, format!(in line.alloc; "{NO_FLAGS} {verb}{form}")?))
         }
-        _ => mark_at(line.alloc, column, sentence_on_stray(word)),
+        _ => mark_at(line.alloc, column, &Shown(sentence_on_stray(word))),
     }
 }
 
@@ -147,7 +142,7 @@ fn mark_of_line(alloc: Global, profile: Profile, text: &[u8]) -> Result<Mark> {
         return mark_of_words(line, &lower);
     };
     let sentence = text_on(&text[column..], MARKS).unwrap_or(b"this is no plain ASCII");
-    mark_at(alloc, column, sentence)
+    mark_at(alloc, column, &Shown(sentence))
 }
 
 /// What was unexpected in the line of a script for which this fault was answered under a profile;
@@ -165,9 +160,9 @@ pub fn hint_on_script<'a>(
     let number = u64::from(fault.line()?);
     let line = line_at(text, number.saturating_sub(before));
     let mark = match fault {
-        ConsoleFault::LineTooLong(_) => (MAX_LINE_OCTETS, format!(in alloc; "{fault}").ok()?),
-        ConsoleFault::TooManyLines => (0, format!(in alloc; "{fault}").ok()?),
-        _ => mark_of_line(alloc, profile, line).ok()?,
+        ConsoleFault::LineTooLong(_) => mark_at(alloc, MAX_LINE_OCTETS, fault),
+        ConsoleFault::TooManyLines => mark_at(alloc, 0, fault),
+        _ => mark_of_line(alloc, profile, line),
     };
-    Some(Hint::new(Some(("line", number)), line, mark))
+    Some(Hint::new(Some(("line", number)), line, mark.ok()?))
 }
