@@ -14,3 +14,4 @@ pub mod Room
 mod InOrder
 mod Loaded
 mod Found
+pub mod Slot

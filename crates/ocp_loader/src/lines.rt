@@ -47,7 +47,6 @@ pub(crate) fn check_length(code: &[u8]) -> Result<(), LoadFault>
 }
 
 /// Reads the lines of an image by slot, or finds its first fault under the profile.
-#[tactic(auto, using(crate::proofs::First::first_read, crate::proofs::First::first_of_lines))]
 fn judge<A: Allocator>(
     lines: &mut Vec<Option<Line>, A>,
     profile: Profile,
