@@ -1,7 +1,6 @@
 -- The journal of a closed book.
-use Rattle.std.proofs.Common.{◌≡◌, ◌-◌, ℕ, zero, suc, List, [], ◌∷◌, length, map, take, drop, Some, slice_get, refl, sym, ap, subst, ◌∙◌, arith}
-use Rattle.std.proofs.lemmas.List.{drop-map}
-use Rattle.std.proofs.lemmas.Grind.{common_steps}
+use Rattle.std.proofs.Common.{◌≡◌, ◌-◌, ℕ, zero, suc, List, [], ◌∷◌, length, map, take, drop, Some, slice_get, refl, sym, ap, subst, ◌∙◌}
+use Rattle.std.proofs.lemmas.List.{drop-map, take_rest}
 use Rattle.ocp_world.specs.World.{World, opening}
 use Rattle.ocp_world.specs.Replay.{replay_from}
 use Rattle.ocp_core.specs.Log.{Log, Entry, events_of, expand, world_of}
@@ -14,8 +13,7 @@ use Rattle.ocp_seats.specs.History.{IsHistory, world_before}
 -- the entries since an index, as they are kept
 pub since_is : {X : Type 0} (f : X → MarkedEntry) (es : List X) (n : ℕ) (ms : List MarkedEntry) → map f es ≡ ms → map f (take (length es - n) (drop n es)) ≡ drop n ms
 since_is f es n ms is =
-    let whole : take (length es - n) (drop n es) ≡ drop n es = grind (arith, common_steps) in
-    ap (map f) whole ∙ (sym (drop-map f n es) ∙ ap (drop n) is)
+    ap (map f) (take_rest es n) ∙ (sym (drop-map f n es) ∙ ap (drop n) is)
 
 entries_from : (w : World) (es : List Entry) → map (λ (m : MarkedEntry). m.entry) (entries_with_marks_from w es) ≡ es
 entries_from w [] = refl

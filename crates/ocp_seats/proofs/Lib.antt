@@ -1,3 +1,4 @@
 pub mod Walks
 pub mod Histories
 pub mod Going
+pub mod Takings

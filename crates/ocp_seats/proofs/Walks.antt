@@ -1,10 +1,11 @@
 -- The walk over the entries, with a place in each seat's receipts.
 use Rattle.std.proofs.Common.{◌≡◌, ◌≢◌, ℕ, ◌+◌, ◌<◌, ◌≤◌, ◌==◌, Bool, true, false, eqb, List, [], ◌∷◌, ◌++◌, length, take, drop, set, get_or, refl, ap, sym, ◌∙◌, subst, arith, filter, count_by, All, Any, zero, suc, Some, IsTrue, ◌↔◌, slice_get, length-append, length-set, replicate, map}
+use Rattle.std.specs.Prelude.{slice_index_or}
 use Rattle.std.proofs.lemmas.Grind.{common_steps}
-use Rattle.std.proofs.lemmas.List.{take_more, drop_more, take-append-drop, append-nil, get_or-set_same, get_or-set_other, get_or-map, length-map}
+use Rattle.std.proofs.lemmas.List.{take_more, drop_more, take-append-drop, append-nil, get_or-set_same, get_or-set_other, get_or-map, get_or_default, length-map, length-take-le}
 use Rattle.std.proofs.lemmas.List.Elements.{filter-append, filter_more, All-push, All-same}
 use Rattle.std.proofs.lemmas.Option.{get_or_from_slice_get, slice_get_within, slice_get_read}
-use Rattle.std.proofs.Math.Seq.{get_or-append_seam}
+use Rattle.std.proofs.Math.Seq.{get_or-append_seam, take-length}
 use Rattle.ocp_core.specs.Marks.{MarkedEntry, by_of, entries_by}
 use Rattle.ocp_seats.specs.Seats.{SeatContents}
 use Rattle.ocp_seats.specs.Closing.{IsWhole, IsReceipted}
@@ -31,17 +32,6 @@ same_place p (x ∷ xs) (suc i) (suc j) d one lt lt' this that =
     let more = count_positive p xs i d (omega arith) this in
     let less : count_by p xs ≡ 1 = grind (arith, common_steps) in
     ap suc (same_place p xs i j d less (omega arith) (omega arith) this that)
-
-pub get_or_default : {X : Type 0} (xs : List X) (i : ℕ) (d e : X) → i < length xs → get_or xs i d ≡ get_or xs i e
-get_or_default [] i d e lt = absurd (omega arith)
-get_or_default (x ∷ xs) zero d e lt = refl
-get_or_default (x ∷ xs) (suc i) d e lt = get_or_default xs i d e (omega arith)
-
-length_take : {X : Type 0} (n : ℕ) (xs : List X) → n ≤ length xs → length (take n xs) ≡ n
-length_take n xs le = grind (arith, common_steps)
-
-take_whole : {X : Type 0} (xs : List X) → take (length xs) xs ≡ xs
-take_whole xs = grind (arith, common_steps)
 
 -- two seats of one number are one seat
 pub distinct : (seats : List SeatContents) (n : ℕ) → IsWhole seats n → (i j : ℕ) (d : SeatContents) → i < length seats → j < length seats → (get_or seats i d).number ≡ (get_or seats j d).number → i ≡ j
@@ -147,7 +137,7 @@ next_is entries i places seats walked e lt is m s lt' is' by good =
     let all : s.receipts ≡ entries_by entries (by_of e.entry) = subst (λ (v : ℕ). s.receipts ≡ entries_by entries v) by (subst (λ (t : SeatContents). t.receipts ≡ entries_by entries t.number) (sym is') (good.receipts m s lt')) in
     let rest = entries_by (drop (i + 1) entries) (by_of e.entry) in
     let split : s.receipts ≡ done ++ e ∷ rest = all ∙ rest_is (λ (x : MarkedEntry). by_of x.entry == by_of e.entry) entries i e lt is (grind arith) in
-    let count : length done ≡ place = ap length (sym so_far) ∙ length_take place s.receipts inside in (
+    let count : length done ≡ place = ap length (sym so_far) ∙ length-take-le place s.receipts inside in (
       omega (arith, ap length split, length-append done (e ∷ rest)),
       ap (λ (l : List MarkedEntry). get_or l place e) split ∙ (ap (λ (j : ℕ). get_or (done ++ e ∷ rest) j e) (sym count) ∙ get_or-append_seam done e rest e),
     )
@@ -155,13 +145,13 @@ next_is entries i places seats walked e lt is m s lt' is' by good =
 -- all entries were walked, and each place is at its end
 pub walked_all : (entries : List MarkedEntry) (places : List ℕ) (seats : List SeatContents) → Walked entries (length entries) places seats → All (λ (s : SeatContents). get_or places s.number 0 ≡ length s.receipts) seats → IsReceipted entries seats
 walked_all entries places seats walked ends =
-    let whole = take_whole entries in
+    let whole = take-length entries in
     record {
       covered = All-same (IsBySeat seats) entries _ (sym whole) walked.covered;
       receipts = λ k d lt.
           let r = (get_or seats k d).receipts in
           let v = (get_or seats k d).number in
-          sym (take_whole r) ∙ (ap (λ (j : ℕ). take j r) (sym (ends k d lt)) ∙ (walked.matched k d lt ∙ ap (λ (l : List MarkedEntry). entries_by l v) whole));
+          sym (take-length r) ∙ (ap (λ (j : ℕ). take j r) (sym (ends k d lt)) ∙ (walked.matched k d lt ∙ ap (λ (l : List MarkedEntry). entries_by l v) whole));
     }
 
 pub place_is_end : (entries : List MarkedEntry) (places : List ℕ) (seats : List SeatContents) → Walked entries (length entries) places seats → (m : ℕ) (s : SeatContents) → m < length seats → s ≡ get_or seats m s → IsReceipted entries seats → get_or places s.number 0 ≡ length s.receipts
@@ -170,8 +160,8 @@ place_is_end entries places seats walked m s lt' is' good =
     let so_far : take place s.receipts ≡ entries_by (take (length entries) entries) s.number = subst (λ (t : SeatContents). take (get_or places t.number 0) t.receipts ≡ entries_by (take (length entries) entries) t.number) (sym is') (walked.matched m s lt') in
     let inside : place ≤ length s.receipts = subst (λ (t : SeatContents). get_or places t.number 0 ≤ length t.receipts) (sym is') (walked.within m s lt') in
     let all : s.receipts ≡ entries_by entries s.number = subst (λ (t : SeatContents). t.receipts ≡ entries_by entries t.number) (sym is') (good.receipts m s lt') in
-    let same : take place s.receipts ≡ s.receipts = so_far ∙ (ap (λ (l : List MarkedEntry). entries_by l s.number) (take_whole entries) ∙ sym all) in
-    sym (length_take place s.receipts inside) ∙ ap length same
+    let same : take place s.receipts ≡ s.receipts = so_far ∙ (ap (λ (l : List MarkedEntry). entries_by l s.number) (take-length entries) ∙ sym all) in
+    sym (length-take-le place s.receipts inside) ∙ ap length same
 
 -- no entry was walked
 pub none_walked : (entries : List MarkedEntry) (places : List ℕ) (seats : List SeatContents) → length places ≡ 65 → ((k : ℕ) → get_or places k 0 ≡ 0) → Walked entries 0 places seats
@@ -190,6 +180,9 @@ zeros_read (suc n) (suc k) = zeros_read n k
 -- a number that one of the seats has is a place's index
 pub number_below : (seats : List SeatContents) (n : ℕ) → IsWhole seats n → n ≤ 64 → (m : ℕ) (s : SeatContents) → m < length seats → s ≡ get_or seats m s → s.number < 65
 number_below seats n whole most m s lt is = let inside = whole.within m s lt in omega (arith, ap (λ (x : SeatContents). x.number) is)
+
+pub found_below : (seats : List SeatContents) (n : ℕ) → IsWhole seats n → n ≤ 64 → (number : ℕ) (s : SeatContents) → (s.number ≡ number) × ((m : ℕ) × (m < length seats) × (s ≡ slice_index_or seats m s)) → number < 65
+found_below seats n whole most number s found = omega (arith, number_below seats n whole most found.1.0 s found.1.1 found.1.2, found.0)
 
 -- ---- entries as they are kept
 

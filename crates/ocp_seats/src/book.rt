@@ -55,7 +55,6 @@ impl<L: Naming, A: Allocator> Model for Book<L, A> {
 impl<L: Naming, A: Allocator> Book<L, A> {
     /// A book that counts the entries after those of the engine, with the blank of a ledger of 65
     /// parts. Its name has the engine's room and its journal.
-    #[tactic(auto, using(crate::proofs::Going::goes_on_start))]
     pub fn new(engine: Engine<A>, blank: Blank) -> Self
         requires { Opens blank.name blank.parts L.name L.parts L.room L.log engine }
         ensures engine { result.engine ≡ engine }

@@ -12,7 +12,6 @@ impl<L: Naming, A: Allocator> Book<L, A> {
     /// drain or a write of a pool word. The seat keeps the receipt of the entry that the journal
     /// gained. The memory of the reports and of what journal and seat keep is taken before anything
     /// is changed.
-    #[tactic(auto, using(crate::proofs::Going::goes_on_further))]
     pub fn apply<I: Input<A>>(&mut self, seat: &mut Seat<L, A>, input: I) -> I::Answer
         ensures served { Serves self.old self.new seat.old seat.new
             (I.event seat.old.number input) (I.answer result) }
@@ -25,7 +24,6 @@ impl<L: Naming, A: Allocator> Book<L, A> {
     }
 
     /// `Engine::slice` with the seat's number: up to `budget` instructions.
-    #[tactic(auto, using(crate::proofs::Going::goes_on_further))]
     pub fn slice(&mut self, seat: &mut Seat<L, A>, id: u16, budget: u32) -> Slice
         requires { 1 ≤ budget }
         ensures served { ServesSlice self.old self.new seat.old seat.new id budget result }
@@ -52,7 +50,6 @@ impl<L: Naming, A: Allocator> Book<L, A> {
     }
 
     /// `Engine::hand_in` with the seat's number.
-    #[tactic(auto, using(crate::proofs::Going::goes_on_further))]
     pub fn hand_in(&mut self, seat: &mut Seat<L, A>, work: &mut Work<A>) -> CommitOutcome
         ensures served { ServesWork self.old self.new seat.old seat.new work.old result }
         ensures work { work.new ≡ work_after work.old result }

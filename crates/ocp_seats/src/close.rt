@@ -105,7 +105,7 @@ fn first_places() -> [usize; MAX_SEATS as usize + 1]
 
 /// Whether each entry is by one of the seats, and each seat's receipts are its entries. One walk
 /// over the entries decides it, with a place kept in the receipts of each seat.
-#[tactic(auto, using(crate::proofs::Walks::none_walked, crate::proofs::Walks::number_below, crate::proofs::Walks::walked_all, crate::proofs::Walks::place_is_end))]
+#[tactic(auto, using(crate::proofs::Walks::none_walked))]
 fn is_receipted<L: Naming, A: Allocator>(
     entries: &[Entry<A>],
     seats: &[Seat<L, A>],

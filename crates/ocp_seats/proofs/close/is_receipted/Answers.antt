@@ -1,10 +1,10 @@
 use Rattle.std.proofs.Common.{◌≡◌, ◌≢◌, ◌<◌, ℕ, length, map, get_or, All, Some, below_more, slice_get, arith, rules, sym, ◌∙◌, refl, subst, ap}
 use Rattle.std.specs.Prelude.{IsTrue, slice_index_or}
-use Rattle.std.proofs.lemmas.List.{length-map}
+use Rattle.std.proofs.lemmas.List.{get_or_default, length-map}
 use Rattle.ocp_core.specs.Marks.{by_of}
 use Rattle.ocp_core.specs.Journal.{entry_with_mark}
 use Rattle.ocp_seats.specs.Seats.{SeatContents}
-use Rattle.ocp_seats.proofs.Walks.{Walked, get_or_default, by_none, receipt_is, walk_past, walked_all, place_is_end}
+use Rattle.ocp_seats.proofs.Walks.{Walked, by_none, receipt_is, walk_past, walked_all, place_is_end, number_below, found_below}
 use Rattle.ocp_seats.proofs.close.is_receipted.Goals as goal
 
 pub returns-in_default : goal.returns-in_default
@@ -66,3 +66,15 @@ returns g c = (
   λ t. walked_all (map entry_with_mark c.args.entries.now) c.loop-entry.places c.args.seats.now c.loop-seat.invariant.0 (λ k d lt. c.loop-seat.invariant.1 k d (omega arith)),
   λ good. refl,
 )
+
+pub bounds-places-number : goal.bounds-places-number
+bounds-places-number g c = omega (arith, found_below c.args.seats.now c.args.handed_out c.requires.whole c.requires.most c.by.result c.in-Some.seat.now (c.in-Some.ensures {u = tt}))
+
+pub bounds-places-number-in-loop-entry : goal.bounds-places-number-in-loop-entry
+bounds-places-number-in-loop-entry g c = omega (arith, found_below c.args.seats.now c.args.handed_out c.requires.whole c.requires.most c.by.result c.in-Some.seat.now (c.in-Some.ensures {u = tt}))
+
+pub bounds-places-number-in-loop-entry-2 : goal.bounds-places-number-in-loop-entry-2
+bounds-places-number-in-loop-entry-2 g c = omega (arith, found_below c.args.seats.now c.args.handed_out c.requires.whole c.requires.most c.by.result c.in-Some.seat.now (c.in-Some.ensures {u = tt}))
+
+pub bounds-places-from : goal.bounds-places-from
+bounds-places-from g c = omega (arith, number_below c.args.seats.now c.args.handed_out c.requires.whole c.requires.most c.loop-seat.seat-index c.seat-item.result c.loop-seat-test.true c.seat-item.is)
