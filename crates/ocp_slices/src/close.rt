@@ -19,7 +19,6 @@ impl<L: Naming> SharedEngine<L> {
     /// this order, if the seats are not those that were given out, each once, and if the entries
     /// since the start are not exactly the seats' receipts; then the shared engine and the seats
     /// come back.
-    #[tactic(auto, using(crate::proofs::Closing::closed_by, crate::proofs::Closing::refused_by))]
     pub fn close(self, seats: Vec<Seat<L>>) -> Result<Engine, StillShared<L>>
         ensures ok { IfOk result (λ engine. IsClosed L.log engine seats.items) }
         ensures back { IfErr result (λ fault. fault.seats ≡ seats) }

@@ -147,7 +147,6 @@ impl<L: Naming, B: Board<L>> SharedEngine<L, B> {
 
     /// Makes `turns` turns, one after the other. It takes the lock once between two of them. From
     /// the second on none asks for memory, if all procedures have machines of one size.
-    #[tactic(auto, using(crate::proofs::Continuing::continues_unchanged, crate::proofs::Continuing::continues_by_turn))]
     pub fn turns<R: Wait, G: Gate>(
         &self,
         rt: &R,
