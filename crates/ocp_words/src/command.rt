@@ -1,7 +1,7 @@
 //! The program's commands.
 
-ghost use Rattle.std.specs.Prelude.{◌≡◌, IfOk, codes, false};
-ghost use Rattle.clap.specs.Words.{app_of, rule_of, new_app};
+ghost use Rattle.std.specs.Prelude.{◌≡◌, IfOk, codes, false, fold};
+ghost use Rattle.clap.specs.Words.{app_of, rule_of, new_app, with_rule};
 ghost use Rattle.clap.specs.declared.builder.command.Command.TheViews.{out-Command};
 ghost use Rattle.ocp_words.specs.Words.{ocp, program, asm, check, run, number_option};
 
@@ -81,13 +81,32 @@ fn option<'a>(alloc: Global, number: Numbered) -> Arg<'a>
         .help(number.help)
 }
 
+/// The command with these options more.
+fn with_options<'a>(
+    alloc: Global,
+    plain: Command<'a>,
+    options: &[Numbered],
+) -> Result<Command<'a>, AllocError>
+    ensures app { IfOk result (λ c. app_of c ≡ fold (λ app number. with_rule app
+        (number_option number.name.now number.default.now number.range.0 number.range.1))
+        (app_of plain.entry) options.now) }
+    ensures global { (out-Command plain.entry).has_globals ≡ false →
+        IfOk result (λ c. (out-Command c).has_globals ≡ false) }
+{
+    let mut command = plain;
+    for number in options {
+        command = command.arg(option(alloc, *number))?;
+    }
+    Ok(command)
+}
+
 /// The command `asm` and its option.
 fn asm_command<'a>(alloc: Global) -> Result<Command<'a>, AllocError>
     ensures app { IfOk result (λ c. app_of c ≡ asm) }
     ensures global { IfOk result (λ c. (out-Command c).has_globals ≡ false) }
 {
     let plain = plain_command(alloc, "asm", help::ASM_USAGE, help::ASM, help::ASM_HELP);
-    plain.arg(option(alloc, PROFILE))
+    with_options(alloc, plain, &[PROFILE])
 }
 
 /// The command `check` and its options.
@@ -95,15 +114,9 @@ fn check_command<'a>(alloc: Global) -> Result<Command<'a>, AllocError>
     ensures app { IfOk result (λ c. app_of c ≡ check) }
     ensures global { IfOk result (λ c. (out-Command c).has_globals ≡ false) }
 {
-    plain_command(
-        alloc,
-        "check",
-        help::CHECK_USAGE,
-        help::CHECK,
-        help::CHECK_HELP,
-    )
-    .arg(option(alloc, PROFILE))?
-    .arg(option(alloc, POOL))
+    let (usage, about, more) = (help::CHECK_USAGE, help::CHECK, help::CHECK_HELP);
+    let plain = plain_command(alloc, "check", usage, about, more);
+    with_options(alloc, plain, &[PROFILE, POOL])
 }
 
 /// The command `run` and its options.
@@ -111,11 +124,8 @@ fn run_command<'a>(alloc: Global) -> Result<Command<'a>, AllocError>
     ensures app { IfOk result (λ c. app_of c ≡ run) }
     ensures global { IfOk result (λ c. (out-Command c).has_globals ≡ false) }
 {
-    plain_command(alloc, "run", help::RUN_USAGE, help::RUN, SCRIPT_HELP)
-        .arg(option(alloc, PROFILE))?
-        .arg(option(alloc, APID))?
-        .arg(option(alloc, POOL))?
-        .arg(option(alloc, JOURNAL))
+    let plain = plain_command(alloc, "run", help::RUN_USAGE, help::RUN, SCRIPT_HELP);
+    with_options(alloc, plain, &[PROFILE, APID, POOL, JOURNAL])
 }
 
 /// The program's command without its subcommands.

@@ -1,14 +1,10 @@
-use Rattle.std.proofs.Common.{ap₂, refl, ◌∙◌}
-use Rattle.clap.specs.Words.{with_rule}
-use Rattle.ocp_words.proofs.Commands.{with_option, without_globals}
+use Rattle.clap.specs.Words.{App, with_rule}
+use Rattle.ocp_words.specs.Words.{profile_option, apid_option, pool_option, journal_option}
+use Rattle.ocp_words.proofs.Commands.{with_rules}
 use Rattle.ocp_words.proofs.command.run_command.Goals as goal
 
 pub returns-clause-app : goal.returns-clause-app
-returns-clause-app c =
-    with_option _ _ _ _ _ c.arg-4.ensures (c.in_ok-arg-3.ensures.shape c.option-3.ensures.global
-    ∙ ap₂ with_rule (c.in_ok-arg-2.ensures.shape c.option-2.ensures.global
-    ∙ ap₂ with_rule (c.in_ok-arg.ensures.shape c.option.ensures.global ∙ ap₂ with_rule c.plain_command.ensures.app c.option.ensures.rule) c.option-2.ensures.rule) c.option-3.ensures.rule) c.option-4.ensures.rule c.option-4.ensures.global
+returns-clause-app c = with_rules _ _ (λ (b : App). with_rule (with_rule (with_rule (with_rule b profile_option) apid_option) pool_option) journal_option) _ c.plain_command-plain.ensures.app c.with_options.ensures.app
 
 pub returns-clause-global : goal.returns-clause-global
-returns-clause-global c =
-    without_globals _ _ _ c.arg-4.ensures (rw (c.in_ok-arg-3.ensures.globals, c.in_ok-arg-2.ensures.globals, c.in_ok-arg.ensures.globals, c.plain_command.ensures.global, c.option.ensures.global, c.option-2.ensures.global, c.option-3.ensures.global) refl) c.option-4.ensures.global
+returns-clause-global c = c.with_options.ensures.global c.plain_command-plain.ensures.global
