@@ -159,7 +159,6 @@ impl<A: Allocator> Execution<A> {
     /// budget, takes their number from what remains, and returns it. It stops before a breakpoint,
     /// but the pass flag lets the first instruction pass one. The first one clears the flag.
     #[inline(always)]
-    #[tactic(auto, using(crate::proofs::Slicing::local_count_within, crate::proofs::Budgets::within_most, crate::proofs::Budgets::within_left))]
     pub(crate) fn advance(
         &mut self,
         breakpoints: &[u16],

@@ -50,8 +50,8 @@ impl<A: Allocator> Snapshot<A> {
     {
         match procedure.control.status {
             Status::Running => Ok(Some(Snapshot {
-                execution: procedure.execution.copy(alloc)?,
                 breakpoints: procedure.breakpoints.clone()?,
+                execution: procedure.execution.copy(alloc)?,
                 pass: procedure.control.pass,
                 traced: procedure.traced,
                 remaining: procedure.remaining,
@@ -112,7 +112,6 @@ impl<A: Allocator> Snapshot<A> {
     /// to `budget` and to what was left of the procedure's. It returns how many it did: none if the
     /// procedure is traced. It stops before the first instruction that needs the engine, and before
     /// a breakpoint, but the pass flag lets the first instruction pass one.
-    #[tactic(auto, using(crate::proofs::Slicing::local_count_within, crate::proofs::Budgets::within_left))]
     pub fn run(&self, machine: &mut Machine<A>, budget: u32) -> u32
         requires { HasAddressesOf machine.old self.now.machine }
         ensures ran { run_of self.now result ≡ Some machine.new }
