@@ -1,5 +1,5 @@
 -- A slice or a round of the state, against steps of the world.
-use Rattle.std.proofs.Common.{◌≡◌, ℕ, ◌+◌, ◌<◌, Bool, true, false, Option, None, replicate, cond, refl, sym, ap, subst, ◌∙◌, add-one, arith}
+use Rattle.std.proofs.Common.{◌≡◌, ℕ, ◌+◌, ◌<◌, Bool, true, false, Option, None, replicate, cond, ◌⊎◌, inl, inr, refl, sym, ap, subst, ◌∙◌, add-one, arith}
 use Rattle.std.specs.Prelude.{is_some}
 use Rattle.std.specs.FinMap.{get}
 use Rattle.ocp_table.specs.declared.answers.Extent.{Extent}
@@ -102,19 +102,16 @@ module _ {A : Type 0} where
         rounds is some = subst (λ x. Comes extent id budget (store_of w) (n + 1) x) (sym outcome_here)
             (comes-round extent id n budget (store_of w) (store_of here) last (so_far.leads w by stands) (so_far.unended w stands) within is (ap (λ (x : Option ℕ). is_some x) (sym ended_here) ∙ some))
 
-        -- after it the slice does not go on
-        pub sliced_count : on ≡ false → n + 1 ≡ slice_count w by id (most_events extent w by id budget)
-        sliced_count off = counted_so extent w by id budget (n + 1) o (ends off)
+        -- after it the slice does not go on, or the round ends
+        last_one : (on ≡ false) ⊎ ((extent ≡ extents.Round) × (is_some step ≡ true)) → Comes extent id budget (store_of w) (n + 1) o
+        last_one (inl off) = ends off
+        last_one (inr round) = rounds round.0 round.1
 
-        pub sliced_last : on ≡ false → o ≡ slice_last w by id Ran (most_events extent w by id budget)
-        sliced_last off = answered_so extent w by id budget (n + 1) o (ends off)
+        pub ended_count : (on ≡ false) ⊎ ((extent ≡ extents.Round) × (is_some step ≡ true)) → n + 1 ≡ slice_count w by id (most_events extent w by id budget)
+        ended_count is = counted_so extent w by id budget (n + 1) o (last_one is)
 
-        -- it ends a step, and so the round
-        pub rounded_count : extent ≡ extents.Round → is_some step ≡ true → n + 1 ≡ slice_count w by id (most_events extent w by id budget)
-        rounded_count is some = counted_so extent w by id budget (n + 1) o (rounds is some)
-
-        pub rounded_last : extent ≡ extents.Round → is_some step ≡ true → o ≡ slice_last w by id Ran (most_events extent w by id budget)
-        rounded_last is some = answered_so extent w by id budget (n + 1) o (rounds is some)
+        pub ended_last : (on ≡ false) ⊎ ((extent ≡ extents.Round) × (is_some step ≡ true)) → o ≡ slice_last w by id Ran (most_events extent w by id budget)
+        ended_last is = answered_so extent w by id budget (n + 1) o (last_one is)
 
       -- the step that it ends
       pub sliced_step : step ≡ step_at w by id (n + 1)

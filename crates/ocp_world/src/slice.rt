@@ -51,10 +51,8 @@ impl<A: Allocator> State<A> {
             let count = done + 1;
             let step = answer.step;
             last = answer.outcome;
-            if !self.goes_on(id, place, last) {
-                return Round { count, last, step };
-            }
-            if extent.ends_with(step) {
+            let is_last = !self.goes_on(id, place, last) || extent.ends_with(step);
+            if is_last {
                 return Round { count, last, step };
             }
         }

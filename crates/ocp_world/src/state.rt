@@ -105,10 +105,10 @@ impl<A: Allocator + Copy> State<A> {
     {
         let count = SequenceCount::new(0).unwrap();
         Ok(State {
-            table: Table::new(alloc, profile)?,
-            pool: Pool::new(alloc, words)?,
-            sender: Sender { apid, count },
             ring: TraceRing::new(alloc)?,
+            pool: Pool::new(alloc, words)?,
+            table: Table::new(alloc, profile)?,
+            sender: Sender { apid, count },
         })
     }
 }
@@ -208,11 +208,11 @@ impl<A: Allocator> State<A> {
         keeper: &mut K,
         event: u64,
         origin: Origin,
-        request: Request<'_>,
+        request: &Request<'_>,
         packets: &mut PacketBuffer<A>,
     ) -> Result<K::Kept, EngineFault>
         ensures does { (w : World) → IsWorld w self.old → event ≡ w.events →
-            DoesIn w (command_effect request.entry origin w) (with_packets result packets.new)
+            DoesIn w (command_effect request.now origin w) (with_packets result packets.new)
             self.new }
         ensures kept { IfOk result (λ kept. K.holds kept packets.new) }
         ensures memory { result ≡ Err engine.Memory → K.refused keeper.new ≡ true }
@@ -224,40 +224,31 @@ impl<A: Allocator> State<A> {
             source: origin.destination,
             ack: origin.ack,
         };
-        match request {
-            Request::Load { id, code } => self.load(keeper, origin, id, code.octets(), packets),
-            Request::Unload { id } => {
-                self.direct(keeper, origin, id, Directive::Unload, packets)
+        let (id, directive) = match request {
+            Request::Load { id, code } => {
+                return self.load(keeper, origin, *id, code.octets(), packets);
             }
+            Request::Status => {
+                let rows = StatusRows::new(self.table.statuses()).unwrap();
+                let report = Some(Report::Status { rows });
+                return self.reply(keeper, origin, Outcome::Done, &report, packets);
+            }
+            Request::Unload { id } => (*id, Directive::Unload),
             Request::Activate {
                 id,
                 budget,
                 arguments,
             } => {
-                let arguments = arguments.octets();
-                let directive = Directive::Activate { budget, arguments };
-                self.direct(keeper, origin, id, directive, packets)
+                let (budget, arguments) = (*budget, arguments.octets());
+                (*id, Directive::Activate { budget, arguments })
             }
-            Request::Stop { id, step } => {
-                self.direct(keeper, origin, id, Directive::Stop(step, from), packets)
-            }
-            Request::Suspend { id, step } => {
-                self.direct(keeper, origin, id, Directive::Suspend(step, from), packets)
-            }
-            Request::Resume { id } => {
-                self.direct(keeper, origin, id, Directive::Resume, packets)
-            }
-            Request::Communicate { id, words } => {
-                let directive = Directive::Communicate(words.as_slice());
-                self.direct(keeper, origin, id, directive, packets)
-            }
-            Request::Status => {
-                let rows = StatusRows::new(self.table.statuses()).unwrap();
-                let report = Some(Report::Status { rows });
-                self.reply(keeper, origin, Outcome::Done, &report, packets)
-            }
-            Request::Abort { id } => { self.direct(keeper, origin, id, Directive::Abort, packets) }
-        }
+            Request::Stop { id, step } => (*id, Directive::Stop(*step, from)),
+            Request::Suspend { id, step } => (*id, Directive::Suspend(*step, from)),
+            Request::Resume { id } => (*id, Directive::Resume),
+            Request::Communicate { id, words } => (*id, Directive::Communicate(words.as_slice())),
+            Request::Abort { id } => (*id, Directive::Abort),
+        };
+        self.direct(keeper, origin, id, directive, packets)
     }
 
     /// Does what a telecommand asks for, as it was read at this time, and writes its reports. The
@@ -288,7 +279,7 @@ impl<A: Allocator> State<A> {
                     time,
                 };
                 match read_request(self.table.profile(), &telecommand) {
-                    Ok(request) => self.serve(keeper, event, origin, request, packets),
+                    Ok(request) => self.serve(keeper, event, origin, &request, packets),
                     Err(fault) => {
                         let outcome = Outcome::Refused(AcceptanceFailure::Request(fault));
                         self.reply(keeper, origin, outcome, &None, packets)

@@ -1,10 +1,12 @@
-use Rattle.std.proofs.Common.{refl, sym, subst, ◌∙◌, arith}
+use Rattle.std.proofs.Common.{◌≡◌, true, false, inl, inr, refl, sym, subst, ◌∙◌, arith}
 use Rattle.ocp_table.proofs.Slicing.{round_ends, round_none}
 use Rattle.ocp_world.proofs.Counting.{accepted_runs, slice_counted}
 use Rattle.ocp_world.proofs.Stretches.{sliced, sliced_count as table_count, sliced_last as table_last, sliced_step as table_step}
 use Rattle.ocp_world.specs.Round.{most_events}
 use Rattle.ocp_table.specs.declared.answers.StepOutcome.TheVariants.{Ran}
-use Rattle.ocp_world.proofs.Slicing.{IsSliced, IsSliced-none, IsSliced-more, sliced_world, sliced_events, sliced_done, sliced_count, sliced_last, sliced_step, rounded_count, rounded_last, whole_is_counted, whole_is_answered, whole_ends_none}
+use Rattle.ocp_table.specs.Slices.{ends_with}
+use Rattle.ocp_world.proofs.Slicing.{IsSliced, IsSliced-none, IsSliced-more, sliced_world, sliced_events, sliced_done, sliced_step, ended_count, ended_last, whole_is_counted, whole_is_answered, whole_ends_none}
+use Rattle.ocp_world.proofs.state.State.instructions.Goals.{then-not-goes_on, else-not-goes_on}
 use Rattle.ocp_world.proofs.state.State.instructions.Goals as goal
 
 pub returns-in-Some-clause-world : goal.returns-in-Some-clause-world
@@ -29,49 +31,37 @@ returns-in-Some-clause-last g c = table_last c.args.extent c.args.self.now c.arg
 pub returns-in-Some-clause-step : goal.returns-in-Some-clause-step
 returns-in-Some-clause-step g c w by stands is = table_step c.args.self.now c.args.id c.in-Some.round.count c.in-Some.round.step (c.in-Some.ensures.step is) w by stands
 
-pub returns-then-not-goes_on-clause-world : goal.returns-then-not-goes_on-clause-world
-returns-then-not-goes_on-clause-world g c = sliced_world c.args.extent c.args.self.now c.loop-done.self c.instruction-answer.new.self c.args.id c.loop-done.done c.loop-done.last c.instruction-answer.result.outcome c.instruction-answer.result.step c.goes_on.result c.loop-done.invariant (record { world = c.instruction-answer.ensures.world; answer = c.instruction-answer.ensures.answer; ended = c.instruction-answer.ensures.step; goes = c.goes_on.ensures.goes; accepted = c.goes_on.ensures.accepted })
+pub returns-then-is_last-clause-world : goal.returns-then-is_last-clause-world
+returns-then-is_last-clause-world g c = sliced_world c.args.extent c.args.self.now c.loop-done.self c.instruction-answer.new.self c.args.id c.loop-done.done c.loop-done.last c.instruction-answer.result.outcome c.instruction-answer.result.step c.goes_on.result c.loop-done.invariant (record { world = c.instruction-answer.ensures.world; answer = c.instruction-answer.ensures.answer; ended = c.instruction-answer.ensures.step; goes = c.goes_on.ensures.goes; accepted = c.goes_on.ensures.accepted })
 
-pub returns-then-not-goes_on-clause-events : goal.returns-then-not-goes_on-clause-events
-returns-then-not-goes_on-clause-events g c w by stands = sliced_events c.args.extent c.args.self.now c.loop-done.self c.instruction-answer.new.self c.args.id c.loop-done.done c.loop-done.last c.instruction-answer.result.outcome c.instruction-answer.result.step c.goes_on.result c.loop-done.invariant (record { world = c.instruction-answer.ensures.world; answer = c.instruction-answer.ensures.answer; ended = c.instruction-answer.ensures.step; goes = c.goes_on.ensures.goes; accepted = c.goes_on.ensures.accepted }) w by stands
+pub returns-then-is_last-clause-events : goal.returns-then-is_last-clause-events
+returns-then-is_last-clause-events g c w by stands = sliced_events c.args.extent c.args.self.now c.loop-done.self c.instruction-answer.new.self c.args.id c.loop-done.done c.loop-done.last c.instruction-answer.result.outcome c.instruction-answer.result.step c.goes_on.result c.loop-done.invariant (record { world = c.instruction-answer.ensures.world; answer = c.instruction-answer.ensures.answer; ended = c.instruction-answer.ensures.step; goes = c.goes_on.ensures.goes; accepted = c.goes_on.ensures.accepted }) w by stands
 
-pub returns-then-not-goes_on-clause-done : goal.returns-then-not-goes_on-clause-done
-returns-then-not-goes_on-clause-done g c w by stands = sliced_done c.args.extent c.args.self.now c.loop-done.self c.instruction-answer.new.self c.args.id c.loop-done.done c.loop-done.last c.instruction-answer.result.outcome c.instruction-answer.result.step c.goes_on.result c.loop-done.invariant (record { world = c.instruction-answer.ensures.world; answer = c.instruction-answer.ensures.answer; ended = c.instruction-answer.ensures.step; goes = c.goes_on.ensures.goes; accepted = c.goes_on.ensures.accepted }) w by stands
+pub returns-then-is_last-clause-done : goal.returns-then-is_last-clause-done
+returns-then-is_last-clause-done g c w by stands = sliced_done c.args.extent c.args.self.now c.loop-done.self c.instruction-answer.new.self c.args.id c.loop-done.done c.loop-done.last c.instruction-answer.result.outcome c.instruction-answer.result.step c.goes_on.result c.loop-done.invariant (record { world = c.instruction-answer.ensures.world; answer = c.instruction-answer.ensures.answer; ended = c.instruction-answer.ensures.step; goes = c.goes_on.ensures.goes; accepted = c.goes_on.ensures.accepted }) w by stands
 
-pub returns-then-not-goes_on-clause-count : goal.returns-then-not-goes_on-clause-count
-returns-then-not-goes_on-clause-count g c w by stands = sliced_count c.args.extent c.args.self.now c.loop-done.self c.instruction-answer.new.self c.args.id c.loop-done.done c.loop-done.last c.instruction-answer.result.outcome c.instruction-answer.result.step c.goes_on.result c.loop-done.invariant (record { world = c.instruction-answer.ensures.world; answer = c.instruction-answer.ensures.answer; ended = c.instruction-answer.ensures.step; goes = c.goes_on.ensures.goes; accepted = c.goes_on.ensures.accepted }) w by stands c.args.budget c.loop-done-test.true c.if-not-goes_on.true
+pub returns-then-is_last-clause-count : goal.returns-then-is_last-clause-count
+returns-then-is_last-clause-count g c w by stands = ended_count c.args.extent c.args.self.now c.loop-done.self c.instruction-answer.new.self c.args.id c.loop-done.done c.loop-done.last c.instruction-answer.result.outcome c.instruction-answer.result.step c.goes_on.result c.loop-done.invariant (record { world = c.instruction-answer.ensures.world; answer = c.instruction-answer.ensures.answer; ended = c.instruction-answer.ensures.step; goes = c.goes_on.ensures.goes; accepted = c.goes_on.ensures.accepted }) w by stands c.args.budget c.loop-done-test.true (elim c.if-not-goes_on.branch [
+  | then-not-goes_on u ↦ inl u.if-not-goes_on.true
+  | else-not-goes_on u ↦ inr (round_ends c.args.extent c.instruction-answer.result.step (sym u.ends_with-is_last.ensures ∙ sym u.is_last-is ∙ c.if-is_last.true))
+])
 
-pub returns-then-not-goes_on-clause-last : goal.returns-then-not-goes_on-clause-last
-returns-then-not-goes_on-clause-last g c w by stands = sliced_last c.args.extent c.args.self.now c.loop-done.self c.instruction-answer.new.self c.args.id c.loop-done.done c.loop-done.last c.instruction-answer.result.outcome c.instruction-answer.result.step c.goes_on.result c.loop-done.invariant (record { world = c.instruction-answer.ensures.world; answer = c.instruction-answer.ensures.answer; ended = c.instruction-answer.ensures.step; goes = c.goes_on.ensures.goes; accepted = c.goes_on.ensures.accepted }) w by stands c.args.budget c.loop-done-test.true c.if-not-goes_on.true
+pub returns-then-is_last-clause-last : goal.returns-then-is_last-clause-last
+returns-then-is_last-clause-last g c w by stands = ended_last c.args.extent c.args.self.now c.loop-done.self c.instruction-answer.new.self c.args.id c.loop-done.done c.loop-done.last c.instruction-answer.result.outcome c.instruction-answer.result.step c.goes_on.result c.loop-done.invariant (record { world = c.instruction-answer.ensures.world; answer = c.instruction-answer.ensures.answer; ended = c.instruction-answer.ensures.step; goes = c.goes_on.ensures.goes; accepted = c.goes_on.ensures.accepted }) w by stands c.args.budget c.loop-done-test.true (elim c.if-not-goes_on.branch [
+  | then-not-goes_on u ↦ inl u.if-not-goes_on.true
+  | else-not-goes_on u ↦ inr (round_ends c.args.extent c.instruction-answer.result.step (sym u.ends_with-is_last.ensures ∙ sym u.is_last-is ∙ c.if-is_last.true))
+])
 
-pub returns-then-not-goes_on-clause-step : goal.returns-then-not-goes_on-clause-step
-returns-then-not-goes_on-clause-step g c w by stands is = sliced_step c.args.extent c.args.self.now c.loop-done.self c.instruction-answer.new.self c.args.id c.loop-done.done c.loop-done.last c.instruction-answer.result.outcome c.instruction-answer.result.step c.goes_on.result c.loop-done.invariant (record { world = c.instruction-answer.ensures.world; answer = c.instruction-answer.ensures.answer; ended = c.instruction-answer.ensures.step; goes = c.goes_on.ensures.goes; accepted = c.goes_on.ensures.accepted }) w by stands
-
-pub returns-then-ends_with-clause-world : goal.returns-then-ends_with-clause-world
-returns-then-ends_with-clause-world g c = sliced_world c.args.extent c.args.self.now c.loop-done.self c.instruction-answer.new.self c.args.id c.loop-done.done c.loop-done.last c.instruction-answer.result.outcome c.instruction-answer.result.step c.goes_on.result c.loop-done.invariant (record { world = c.instruction-answer.ensures.world; answer = c.instruction-answer.ensures.answer; ended = c.instruction-answer.ensures.step; goes = c.goes_on.ensures.goes; accepted = c.goes_on.ensures.accepted })
-
-pub returns-then-ends_with-clause-events : goal.returns-then-ends_with-clause-events
-returns-then-ends_with-clause-events g c w by stands = sliced_events c.args.extent c.args.self.now c.loop-done.self c.instruction-answer.new.self c.args.id c.loop-done.done c.loop-done.last c.instruction-answer.result.outcome c.instruction-answer.result.step c.goes_on.result c.loop-done.invariant (record { world = c.instruction-answer.ensures.world; answer = c.instruction-answer.ensures.answer; ended = c.instruction-answer.ensures.step; goes = c.goes_on.ensures.goes; accepted = c.goes_on.ensures.accepted }) w by stands
-
-pub returns-then-ends_with-clause-done : goal.returns-then-ends_with-clause-done
-returns-then-ends_with-clause-done g c w by stands = sliced_done c.args.extent c.args.self.now c.loop-done.self c.instruction-answer.new.self c.args.id c.loop-done.done c.loop-done.last c.instruction-answer.result.outcome c.instruction-answer.result.step c.goes_on.result c.loop-done.invariant (record { world = c.instruction-answer.ensures.world; answer = c.instruction-answer.ensures.answer; ended = c.instruction-answer.ensures.step; goes = c.goes_on.ensures.goes; accepted = c.goes_on.ensures.accepted }) w by stands
-
-pub returns-then-ends_with-clause-count : goal.returns-then-ends_with-clause-count
-returns-then-ends_with-clause-count g c w by stands =
-    let ends = round_ends c.args.extent c.instruction-answer.result.step (sym c.ends_with.ensures ∙ c.if-ends_with.true) in
-    rounded_count c.args.extent c.args.self.now c.loop-done.self c.instruction-answer.new.self c.args.id c.loop-done.done c.loop-done.last c.instruction-answer.result.outcome c.instruction-answer.result.step c.goes_on.result c.loop-done.invariant (record { world = c.instruction-answer.ensures.world; answer = c.instruction-answer.ensures.answer; ended = c.instruction-answer.ensures.step; goes = c.goes_on.ensures.goes; accepted = c.goes_on.ensures.accepted }) w by stands c.args.budget c.loop-done-test.true ends.0 ends.1
-
-pub returns-then-ends_with-clause-last : goal.returns-then-ends_with-clause-last
-returns-then-ends_with-clause-last g c w by stands =
-    let ends = round_ends c.args.extent c.instruction-answer.result.step (sym c.ends_with.ensures ∙ c.if-ends_with.true) in
-    rounded_last c.args.extent c.args.self.now c.loop-done.self c.instruction-answer.new.self c.args.id c.loop-done.done c.loop-done.last c.instruction-answer.result.outcome c.instruction-answer.result.step c.goes_on.result c.loop-done.invariant (record { world = c.instruction-answer.ensures.world; answer = c.instruction-answer.ensures.answer; ended = c.instruction-answer.ensures.step; goes = c.goes_on.ensures.goes; accepted = c.goes_on.ensures.accepted }) w by stands c.args.budget c.loop-done-test.true ends.0 ends.1
-
-pub returns-then-ends_with-clause-step : goal.returns-then-ends_with-clause-step
-returns-then-ends_with-clause-step g c w by stands is = sliced_step c.args.extent c.args.self.now c.loop-done.self c.instruction-answer.new.self c.args.id c.loop-done.done c.loop-done.last c.instruction-answer.result.outcome c.instruction-answer.result.step c.goes_on.result c.loop-done.invariant (record { world = c.instruction-answer.ensures.world; answer = c.instruction-answer.ensures.answer; ended = c.instruction-answer.ensures.step; goes = c.goes_on.ensures.goes; accepted = c.goes_on.ensures.accepted }) w by stands
+pub returns-then-is_last-clause-step : goal.returns-then-is_last-clause-step
+returns-then-is_last-clause-step g c w by stands is = sliced_step c.args.extent c.args.self.now c.loop-done.self c.instruction-answer.new.self c.args.id c.loop-done.done c.loop-done.last c.instruction-answer.result.outcome c.instruction-answer.result.step c.goes_on.result c.loop-done.invariant (record { world = c.instruction-answer.ensures.world; answer = c.instruction-answer.ensures.answer; ended = c.instruction-answer.ensures.step; goes = c.goes_on.ensures.goes; accepted = c.goes_on.ensures.accepted }) w by stands
 
 pub loop-done-preserved : goal.loop-done-preserved
-loop-done-preserved g c = IsSliced-more c.args.extent c.args.self.now c.loop-done.self c.instruction-answer.new.self c.args.id c.loop-done.done c.loop-done.last c.instruction-answer.result.outcome c.instruction-answer.result.step c.goes_on.result c.loop-done.invariant (record { world = c.instruction-answer.ensures.world; answer = c.instruction-answer.ensures.answer; ended = c.instruction-answer.ensures.step; goes = c.goes_on.ensures.goes; accepted = c.goes_on.ensures.accepted }) c.if-not-goes_on.false
-    (round_none c.args.extent c.instruction-answer.result.step (sym c.ends_with.ensures ∙ c.if-ends_with.false))
+loop-done-preserved g c =
+    let on : (c.goes_on.result ≡ true) × (ends_with c.args.extent c.instruction-answer.result.step ≡ false) = elim c.if-not-goes_on.branch [
+      | then-not-goes_on u ↦ absurd (cc (u.is_last-is, c.if-is_last.false))
+      | else-not-goes_on u ↦ (u.if-not-goes_on.false, sym u.ends_with-is_last.ensures ∙ sym u.is_last-is ∙ c.if-is_last.false)
+    ] in
+    IsSliced-more c.args.extent c.args.self.now c.loop-done.self c.instruction-answer.new.self c.args.id c.loop-done.done c.loop-done.last c.instruction-answer.result.outcome c.instruction-answer.result.step c.goes_on.result c.loop-done.invariant (record { world = c.instruction-answer.ensures.world; answer = c.instruction-answer.ensures.answer; ended = c.instruction-answer.ensures.step; goes = c.goes_on.ensures.goes; accepted = c.goes_on.ensures.accepted }) on.0 (round_none c.args.extent c.instruction-answer.result.step on.1)
 
 pub loop-done-init : goal.loop-done-init
 loop-done-init g c =
