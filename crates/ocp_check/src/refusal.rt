@@ -3,6 +3,7 @@
 use crate::certificate::Node;
 use crate::covering::range_of;
 use crate::range::Range;
+use crate::steps::is_inside;
 use bpf_step::MAX_LOCAL_CALLS;
 use bpf_types::{Line, Reg};
 use ocp_regions::{ARGUMENT_OCTETS, ARGUMENTS};
@@ -16,7 +17,7 @@ pub enum Why {
     Arguments(Reg, Option<Range>),
     /// A local call with seven open.
     Depth,
-    /// A call of the pool for a word that it has not, by what is known of R1.
+    /// A call of the pool for a word that it does not have, by what is known of R1.
     Index(Option<Range>),
     /// The search ended before what is known at the next slot was settled.
     Unsettled,
@@ -42,9 +43,12 @@ fn store_reason(base: Reg, known: Option<Range>) -> Why {
     }
 }
 
-/// Why a line is not shown, by what the certificate says at its slot.
+/// Why a line is not shown, by what the certificate says at its slot. If its access is inside, what
+/// is known at the next slot is not settled.
 pub(crate) fn reason(node: &Node, line: Line) -> Why {
     match line {
+        Line::CallLocal { .. } if usize::from(node.depth) >= MAX_LOCAL_CALLS => Why::Depth,
+        _ if is_inside(node, &line) => Why::Unsettled,
         Line::Load { base, .. } | Line::LoadExtended { base, .. } => Why::Outside(
             base,
             range_of(&node.row, base),
@@ -53,7 +57,6 @@ pub(crate) fn reason(node: &Node, line: Line) -> Why {
             base,
             range_of(&node.row, base),
         ),
-        Line::CallLocal { .. } if usize::from(node.depth) >= MAX_LOCAL_CALLS => Why::Depth,
         _ => Why::Unsettled,
     }
 }

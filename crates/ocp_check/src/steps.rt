@@ -133,7 +133,7 @@ fn is_inside_at(node: &Node, base: Reg, offset: i16, size: Size, writes: bool) -
 }
 
 /// The same of the access of a line, if it has one.
-fn is_inside(node: &Node, line: &Line) -> bool
+pub(crate) fn is_inside(node: &Node, line: &Line) -> bool
     ensures { IsTrue result → (registers : List ℕ) → AreIn node.now.row registers →
         AccessIsThere line.now registers }
 {
@@ -347,7 +347,7 @@ fn is_kept_branching(certificate: &[Option<Node>], slot: u16, node: &Node, line:
         && is_kept_jumping(certificate, slot, None, node, dst, passed)
 }
 
-/// What is known at the first slot of a local call: R10, and what is promised of R0 at the end.
+/// What is known at the first slot of a local call: as at the call, but for R10 and the promises.
 pub(crate) fn at_call(
     node: &Node,
     pointer: Option<Range>,
@@ -424,6 +424,7 @@ pub(crate) fn is_kept(certificate: &[Option<Node>], slot: u16, node: &Node, line
     ensures { IsTrue result → (s : State) → s.place ≡ slot → Matches certificate.now node.now s →
         FitsAfter certificate.now s (step line s) }
 {
+    // A jump without a test shows nothing new: it passes R0 with what is known of it.
     let r0 = Reg::zero();
     let known = range_of(&node.row, r0);
     match line {
