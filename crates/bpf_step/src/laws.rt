@@ -26,7 +26,8 @@ pub fn steps_are_those_of_the_lines()
 }
 
 /// The machine of an admitted image never meets an undefined opcode, a place outside the code or
-/// the second half of a wide load, whatever it executes and whatever the engine answers.
+/// the second half of a wide load, for any octets as arguments and any answers of the engine
+/// (`IsAnswer`).
 pub fn instructions_are_always_found()
     ensures { (profile : Profile) (image : List ℕ) (s : State) →
         IsAdmitted profile image → Reaches image s → IsFound image s }
@@ -36,8 +37,8 @@ pub fn instructions_are_always_found()
     places_lead_to_places();
 }
 
-/// R10 of such a machine is 0x10001000 less 512 for each open local call, of which there are at
-/// most seven, and so is each saved one.
+/// R10 of a machine that an admitted image reaches is 0x10001000 less 512 for each open local call,
+/// of which there are at most seven. Each saved R10 is that of its depth.
 pub fn r10_is_the_frame_pointer_of_the_depth()
     ensures { (profile : Profile) (image : List ℕ) (s : State) →
         IsAdmitted profile image → Reaches image s → IsFramed s }

@@ -3,7 +3,6 @@
 ghost use Rattle.std.specs.Prelude.{All};
 ghost use Rattle.ocp_console.specs.Texts.{HasLine};
 
-pub use ocp_commands::laws::{assemblies_are_unique, listings_are_unique};
 use ocp_core::Reports;
 use std::alloc::Allocator;
 

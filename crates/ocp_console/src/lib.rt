@@ -1,5 +1,4 @@
-//! The console: a script of lines in, its transcript out. It also exports the commands of the
-//! ground tools, and the words of the command line.
+//! The console: a script of lines in, its transcript out.
 #![tactic(auto)]
 
 mod console;
@@ -10,7 +9,4 @@ mod sending;
 mod text;
 mod texts;
 
-pub use ocp_commands::{asm, list};
-pub use ocp_ports::{ConsoleFault, Crew, CrewFault, Device, MAX_LINES, Sink, Source};
-pub use ocp_words::{Job, Settings, WordsFault, not_utf8, read_words};
 pub use script::run;

@@ -52,7 +52,7 @@ impl<A: Allocator> TraceRing<A> {
     }
 
     /// Adds a record. A full ring drops its oldest one.
-    pub fn push(&mut self, trace: Trace)
+    pub(crate) fn push(&mut self, trace: Trace)
         ensures { self.new ≡ last_traces (self.old ++ trace ∷ []) }
     {
         self.records.push_back(trace);
@@ -78,7 +78,7 @@ impl<A: Allocator> TraceRing<A> {
     {
         output.reserve(self.lines_len())?;
         for trace in &self.records {
-            let _has_room = output.extend_from_slice(line_of(trace).as_slice());
+            output.extend_from_slice(line_of(trace).as_slice()).unwrap();
         }
         Ok(())
     }

@@ -3,7 +3,7 @@
 ghost use Rattle.std.specs.Prelude.{◌≡◌, ◌↔◌, ◌≤◌, ◌<◌, ◌+◌, ◌^◌, ℕ, None, Err, IfOk, IfSome, OnOk, OnErr, length, slice_get, option_copied};
 ghost use Rattle.ocp_world.specs.World as world;
 ghost use Rattle.ocp_world.specs.Mirror.State.{IsWorld};
-ghost use Rattle.ocp_flight.specs.Clauses.{Answers, Commanded, Debug, Flown, IsNextRunning, MAX_APID, MAX_CAPACITY, MAX_POOL_WORDS, Put, Reads, Runs, Step, Stepped, Written, answer_in, entry_answer, entry_written, expand, flown_after, get, held_count, last_traces, opened_flown, release_after, release_answer, room, round_after, round_in, slice_after, slice_in, view_at, with_packets, world_of};
+ghost use Rattle.ocp_flight.specs.Clauses.{Answers, Commanded, Debug, Flown, IsNextRunning, MAX_APID, MAX_CAPACITY, MAX_POOL_WORDS, Put, Reads, Runs, Step, Stepped, Written, answer_in, entry_answer, entry_written, expand, flown_after, get, last_traces, opened_flown, release_after, release_answer, room, round_after, round_in, slice_after, slice_in, view_at, with_packets, world_of};
 ghost use Rattle.ocp_flight.specs.Mirror.Codes.{flown_code};
 
 use crate::{BoundedStore, EntryFault, MAX_OCTETS, ReleaseFault, Room};
@@ -101,9 +101,10 @@ impl<A: Allocator> Flight<A> {
         calls::step(&mut self.store, &mut self.state, by, id)
     }
 
-    /// Does instructions of one procedure, at least one, until the budget is used, the procedure no
-    /// longer runs, or an instruction is refused, ends it or faults. They are one entry, or none if
-    /// none was done.
+    /// Does instructions of one procedure until the budget is used, the procedure no longer runs,
+    /// or an instruction ends it or faults. They are one entry. Refused, in this order, if the
+    /// procedure is not loaded, if it is not running, and if there is no room for the entry: then
+    /// the count is 0, the last outcome is the refusal, and nothing is changed.
     pub fn slice(&mut self, by: u16, id: u16, budget: u32) -> Slice
         requires { 1 ≤ budget }
         ensures within { result.count ≤ budget }
@@ -196,13 +197,6 @@ impl<A: Allocator> Flight<A> {
         self.store.first()
     }
 
-    /// How many entries are held.
-    pub fn held_count(&self) -> u64
-        ensures { result ≡ held_count self.now }
-    {
-        self.store.held_count()
-    }
-
     /// How many entries more, and how many octets more, may be held.
     pub fn room(&self) -> Room
         ensures { result ≡ room self.now }
@@ -210,8 +204,8 @@ impl<A: Allocator> Flight<A> {
         self.store.room()
     }
 
-    /// How many events there were: a request is one, each instruction is one, and a drain is one.
-    /// It is the number of the next event.
+    /// How many events were accepted: each instruction is one, and so is each request, debugger's
+    /// command, drain and write of a pool word. It is the number of the next event.
     pub fn events(&self) -> u64
         ensures value { result ≡ length (expand self.now.log.entries) }
         ensures number { result ≡ (world_of self.now.log).events }

@@ -16,4 +16,4 @@ pub use command::{
 pub use help::SCRIPT_HELP;
 pub use lines::Lines;
 pub use reading::read_command;
-pub use words::{length_before, next_word};
+pub use words::next_word;

@@ -18,7 +18,7 @@ const SHORT_TEXT: usize = 64;
 
 /// The number of octets before the first that is `end`, or of all octets if none is.
 #[inline(always)]
-pub fn length_before(end: u8, text: &[u8]) -> usize
+pub(crate) fn length_before(end: u8, text: &[u8]) -> usize
     ensures bound { result ≤ length text.now }
     ensures free { is_free_of end (take result text.now) ≡ true }
     ensures end { result < length text.now → slice_index text.now result ≡ end }

@@ -51,7 +51,7 @@ impl<A: Allocator> PacketBuffer<A> {
     }
 
     /// Removes all packets.
-    pub fn clear(&mut self)
+    pub(crate) fn clear(&mut self)
         ensures { self.new ≡ [] }
     {
         self.octets.clear();

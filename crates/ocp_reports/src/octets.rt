@@ -83,8 +83,8 @@ impl<A: Allocator> Packet<A> {
     }
 }
 
-/// The reports of one request, each a whole telemetry packet, in the order in which they are sent.
-/// All handles of the same reports share one memory.
+/// The reports of one request or drain, each a whole telemetry packet, in the order in which they
+/// are sent. All handles of the same reports share one memory.
 pub struct Reports<A: Allocator = Global> {
     packets: Arc<Vec<Packet<A>, A>, A>,
 }
@@ -142,8 +142,9 @@ impl<A: Allocator> Reports<A> {
     }
 }
 
-/// The reports of a request, seen as their list, with a handle for each who keeps them: the caller,
-/// the journal and the seat. All are taken before anything is changed, since one may be refused.
+/// The reports of a request or drain, seen as their list, with a handle for each who keeps them:
+/// the caller, the journal and the seat. All are taken before anything is changed, since one may be
+/// refused.
 #[derive(Drop)]
 pub struct SharedReports<A: Allocator = Global> {
     answer: Reports<A>,
@@ -181,13 +182,6 @@ impl<A: Allocator> SharedReports<A> {
             journal: Reports { packets: journal },
             receipt: Reports { packets: receipt },
         })
-    }
-
-    /// How many packets there are.
-    pub fn len(&self) -> usize
-        ensures { result ≡ length self.now }
-    {
-        self.answer.len()
     }
 
     /// The answer, the mark of the journal's entry, and that of the seat's receipt.

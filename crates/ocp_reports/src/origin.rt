@@ -34,7 +34,7 @@ impl Origin {
 
     /// The origin of a completion that waited, sent at this time: its report goes to the source of
     /// the request.
-    pub fn of_due(due: &Due, time: u32) -> Origin
+    pub(crate) fn of_due(due: &Due, time: u32) -> Origin
         ensures { result ≡ origin_of_due time due.now }
     {
         Origin {

@@ -111,14 +111,6 @@ impl<A: Allocator> Tape<A> {
         self.ends.len()
     }
 
-    /// The number of octets of all pieces.
-    pub fn extent(&self) -> usize
-        ensures value { result ≡ extent self.now.pieces }
-        ensures within { result ≤ self.now.room }
-    {
-        self.octets.len()
-    }
-
     /// How many more pieces there may be.
     pub fn free_pieces(&self) -> usize
         ensures { length self.now.pieces + result ≡ self.now.most }
@@ -183,7 +175,7 @@ impl<A: Allocator> Tape<A> {
     }
 
     /// Drops the oldest piece.
-    pub fn pop(&mut self)
+    fn pop(&mut self)
         requires { 1 ≤ length self.old.pieces }
         ensures { self.new ≡ record self.old { pieces = drop 1 self.old.pieces } }
     {

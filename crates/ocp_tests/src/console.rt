@@ -4,9 +4,12 @@ ghost use Rattle.std.specs.Prelude.{◌≡◌};
 
 use crate::devices::{Giver, Taker};
 use crate::heap::Refusing;
-use ocp_console::{ConsoleFault, Crew, CrewFault, Device, Settings, asm, list, run};
+use ocp_commands::{asm, list};
+use ocp_console::run;
 use ocp_core::{Engine, Entry};
+use ocp_ports::{ConsoleFault, Crew, CrewFault, Device};
 use ocp_profile::Profile;
+use ocp_words::Settings;
 use std::alloc::{Allocator, Global};
 
 /// The most growths that are refused before a call has to succeed.

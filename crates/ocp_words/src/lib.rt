@@ -7,5 +7,4 @@ mod job;
 mod reading;
 
 pub use job::{CheckSettings, Job, Settings, WordsFault};
-pub use ocp_profile::{MAX_APID, MAX_CAPACITY, MAX_POOL_WORDS};
 pub use reading::{not_utf8, read_given, read_words};

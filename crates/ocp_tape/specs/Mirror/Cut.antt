@@ -1,13 +1,13 @@
--- Pieces by where they end. Places are counts of octets modulo 2^32.
+-- Pieces by where they end. Positions are counts of octets modulo 2^32.
 use Rattle.std.specs.Prelude.{◌≡◌, ◌≤◌, ◌<◌, ℕ, ◌+◌, ◌-◌, ◌%◌, ◌^◌, List, [], ◌∷◌, length, get_or}
 use Rattle.ocp_tape.specs.Pieces.{TapeContents, total, pieces}
 use Rattle.ocp_tape.specs.declared.tape.Tape.TheInside.{Inside}
 
--- the number of octets from one place to another
+-- the number of octets from one position to another
 abbrev pub distance : ℕ → ℕ → ℕ
 distance from to = (to + (2 ^ 32 - from % 2 ^ 32)) % 2 ^ 32
 
--- the lengths of the pieces that end at these places, the first of which begins at this one
+-- the lengths of the pieces that end at these positions, the first of which begins at this one
 abbrev pub lengths_of : ℕ → List ℕ → List ℕ
 lengths_of start [] = []
 lengths_of start (end ∷ ends) = distance start end ∷ lengths_of end ends
