@@ -1,7 +1,8 @@
 //! Tickets of the engine, and the commit of their works.
 
 ghost use Rattle.std.specs.Prelude.{◌≡◌, IfOk, IsTrue, Some, false};
-ghost use Rattle.ocp_core.specs.Clauses.{Commits, Grows, commit_entries, get, ticket_at, work_after, world_of};
+ghost use Rattle.bpf_step.specs.Machine.{HasAddressesOf};
+ghost use Rattle.ocp_core.specs.Clauses.{Commits, Grows, commit_entries, get, TicketContents, ticket_at, work_after, world_of};
 
 use crate::ticket::Parts;
 use crate::{CommitOutcome, Engine, Note, StepOutcome, Store, Ticket, Work};
@@ -35,6 +36,9 @@ impl<A: Allocator> Engine<A> {
         ensures taken { IsTrue result →
             ticket_at id (get (world_of self.now).records id) ≡ Some ticket.new }
         ensures kept { (result ≡ false) → ticket.new ≡ ticket.old }
+        ensures refused { (given : TicketContents) → (result ≡ false) →
+            ticket_at id (get (world_of self.now).records id) ≡ Some given →
+            ¬ HasAddressesOf ticket.old.base.machine given.base.machine }
     {
         let Some(procedure) = self.state.table.record(id) else {
             return false;
