@@ -52,7 +52,9 @@ pub fn workers<
 /// closes it. The engine comes back with its journal followed by new entries, which are one history
 /// of `crew` seats: each is instructions of one procedure by one of the workers, at least one and
 /// at most the budget, or one if the budget is 0. No worker has more entries than turns. So the new
-/// world is the old one after a list of instruction events of running procedures.
+/// world is the old one after a list of instruction events of running procedures. There are at most
+/// 64 workers. Refused if there is no memory for the seats, or if the shared engine was not closed;
+/// the engine is then dropped.
 pub fn work<R: Threads + Wait + Sync, G: Gate + Sync>(
     rt: &R,
     alloc: Global,
@@ -67,6 +69,7 @@ pub fn work<R: Threads + Wait + Sync, G: Gate + Sync>(
     ensures world { IfOk result (λ after. IsInstructed engine after crew) }
 {
     workers_do_instructions_of_running_procedures();
+    // There are no more entries than the capacity, by the contract of `len`.
     let _length = engine.journal().len();
     let blank = Blank::new(u64::from(MAX_SEATS) + 1);
     work_as::<Brand, R, G>(rt, alloc, engine, blank, crew, budget, turns, gate)
@@ -128,14 +131,6 @@ pub enum WorkFault {
     NotClosed,
 }
 
-impl From<AllocError> for WorkFault {
-    ghost from_gives = { λ _ r. r ≡ Memory };
-
-    fn from(_error: AllocError) -> Self {
-        WorkFault::Memory
-    }
-}
-
 impl From<SeatFault> for WorkFault {
     ghost from_gives = { λ fault r. r ≡ fault_of_seat fault };
 
@@ -144,5 +139,13 @@ impl From<SeatFault> for WorkFault {
             SeatFault::Memory => WorkFault::Memory,
             SeatFault::SeatsFull => WorkFault::NotClosed,
         }
+    }
+}
+
+impl From<AllocError> for WorkFault {
+    ghost from_gives = { λ _ r. r ≡ Memory };
+
+    fn from(_error: AllocError) -> Self {
+        WorkFault::Memory
     }
 }

@@ -2,10 +2,12 @@
 
 ghost use Rattle.std.specs.Prelude.{◌≡◌};
 ghost use Rattle.pus_fields.specs.declared.fault.TcFault.TheVariants.{Discarded};
+ghost use Rattle.pus_fields.specs.declared.fault.WriteFault.TheVariants.{Memory};
 ghost use Rattle.pus_fields.specs.TelecommandFaults.{discard_name, discard_of};
 ghost use Rattle.pus_fields.specs.TelemetryFaults.{fault_of, fault_of_packet};
 
 use space_packet::PacketFault;
+use std::alloc::AllocError;
 use thiserror::Error;
 
 /// Why octets are discarded, without a report, in the order in which faults are looked for.
@@ -130,5 +132,13 @@ impl From<Rejection> for TmFault {
 
     fn from(why: Rejection) -> TmFault {
         same_case!(why: Rejection to TmFault, Segmented | NoSecondary | NoRoom | Pec | PusVersion)
+    }
+}
+
+impl From<AllocError> for WriteFault {
+    ghost from_gives = { λ _ r. r ≡ Memory };
+
+    fn from(_error: AllocError) -> Self {
+        WriteFault::Memory
     }
 }

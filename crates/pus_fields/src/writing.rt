@@ -24,7 +24,7 @@ pub const MAX_TELECOMMAND_DATA: usize = 65_529;
 /// The most octets of a telemetry packet's payload: its secondary header has 11 octets.
 pub const MAX_TELEMETRY_DATA: usize = 65_523;
 
-/// Appends the error control of the octets from a place on.
+/// Appends the error control of the octets from `start` on.
 fn append_error_control<A: Allocator>(out: &mut Vec<u8, A>, start: usize)
     requires place { start ≤ vec_len out.old }
     requires room { vec_len out.old + 2 ≤ vec_capacity out.old }
@@ -56,8 +56,7 @@ pub fn write_tc<A: Allocator>(tc: &Tc, out: &mut Vec<u8, A>) -> Result<(), Write
     if payload.len() > MAX_TELECOMMAND_DATA {
         return Err(WriteFault::TooLong);
     }
-    out.reserve(13 + payload.len())
-        .map_err(|_| WriteFault::Memory)?;
+    out.reserve(13 + payload.len())?;
     written_octets_are_the_packet();
     let start = out.len();
     out.extend_from_slice(&tc.id).unwrap();
@@ -92,8 +91,7 @@ pub fn write_tm<A: Allocator>(tm: &Tm, out: &mut Vec<u8, A>) -> Result<(), Write
     if payload.len() > MAX_TELEMETRY_DATA {
         return Err(WriteFault::TooLong);
     }
-    out.reserve(19 + payload.len())
-        .map_err(|_| WriteFault::Memory)?;
+    out.reserve(19 + payload.len())?;
     written_octets_are_the_packet();
     let start = out.len();
     out.extend_from_slice(&((1 << 11) + tm.apid.number()).to_be_bytes())

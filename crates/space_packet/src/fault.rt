@@ -1,5 +1,9 @@
 //! Why octets are no packet, and why a packet was not written.
 
+ghost use Rattle.std.specs.Prelude.{◌≡◌};
+ghost use Rattle.space_packet.specs.declared.fault.WriteFault.TheVariants.{Memory};
+
+use std::alloc::AllocError;
 use thiserror::Error;
 
 /// The first thing that is wrong with octets that are no packet (CCSDS 133.0-B), in this order.
@@ -22,4 +26,12 @@ pub enum WriteFault {
     TooLong,
     #[error("out of memory")]
     Memory,
+}
+
+impl From<AllocError> for WriteFault {
+    ghost from_gives = { λ _ r. r ≡ Memory };
+
+    fn from(_error: AllocError) -> Self {
+        WriteFault::Memory
+    }
 }

@@ -48,8 +48,7 @@ pub fn write<A: Allocator>(
     BigEndian::write_u16(&mut head, identification);
     BigEndian::write_u16(&mut head[2..], sequence_control);
     BigEndian::write_u16(&mut head[4..], (payload.len() - 1) as u16);
-    out.reserve(HEADER_LENGTH + payload.len())
-        .map_err(|_| WriteFault::Memory)?;
+    out.reserve(HEADER_LENGTH + payload.len())?;
     out.extend_from_slice(&head).unwrap();
     out.extend_from_slice(payload).unwrap();
     Ok(())
