@@ -8,8 +8,9 @@ use ocp_words::Job;
 /// How much of its input a job's hints need.
 pub(crate) fn keeps_of(job: Job) -> Keeps {
     match job {
-        Job::Run(_) | Job::Check(_) => Keeps::LastLines,
+        Job::Run(_) => Keeps::LastLines,
         Job::Assemble(_) | Job::List => Keeps::Whole,
+        Job::Check(_) => Keeps::Nothing,
     }
 }
 

@@ -12,6 +12,8 @@ use std::mem::swap;
 /// How much of what was read is kept.
 #[derive(Clone, Copy)]
 pub(crate) enum Keeps {
+    /// Nothing: the job has no hints.
+    Nothing,
     /// All of it.
     Whole,
     /// The lines in the last read, from the front of the first of them on.
@@ -102,6 +104,7 @@ impl Text {
             return;
         }
         let taken = match self.keeps {
+            Keeps::Nothing => Ok(()),
             Keeps::Whole => self.octets.extend_from_slice(octets),
             Keeps::LastLines => self.go_on(octets),
         };

@@ -73,7 +73,7 @@ pub(crate) fn words_asked<A: Allocator>(
 }
 
 /// Whether a certificate shows that the image never asks for a word that a pool of this many words
-/// has not.
+/// does not have.
 pub fn check_pool<A: Allocator>(
     program: &Program<A>,
     certificate: &[Option<Node>],

@@ -167,7 +167,7 @@ fn step_of(steps: &Steps, register: Reg) -> Step
     steps[usize::from(register.number())]
 }
 
-/// How many instructions may follow an instruction, beside the shares of the counters before it:
+/// How many instructions may follow an instruction, less the shares of the counters before it:
 /// no more than this by the rank of the place where it leads.
 pub(crate) fn ahead_by(
     counters: &[Counter],

@@ -74,8 +74,8 @@ fn add_shift(shifts: &mut [Form; BASES], to: Option<Form>, form: Option<Form>) {
     }
 }
 
-/// What becomes of the base of each form of a node, by the registers that are the base and a number
-/// more. Nothing rests on it.
+/// What becomes of the base of each form of a node, by the words and registers that are the base
+/// and a number more.
 fn shifts_of(from: &Node, node: &Node) -> [Form; BASES] {
     let mut shifts = [Form {
         base: 0,
@@ -97,7 +97,7 @@ fn shifts_of(from: &Node, node: &Node) -> [Form; BASES] {
     shifts
 }
 
-/// Whether registers that are tied to one another in the second node are so by the first one.
+/// Whether registers and words that are tied in the second node are tied by the first one.
 fn are_tied(from: &Node, node: &Node) -> bool
     ensures { IsTrue result → (bases : ℕ → ℕ) (registers : List ℕ) (m : Octets) →
         AreIn from.now.row registers → AreFormed from.now.forms bases registers →
@@ -123,7 +123,7 @@ fn are_words_shifted(shifts: &[Form; BASES], from: &Words, words: &Words) -> boo
     true
 }
 
-/// The same, if the number of each base becomes the one of its shift.
+/// The same of the forms of registers.
 fn are_shifted(shifts: &[Form; BASES], from: &Node, node: &Node) -> bool
     ensures { IsTrue result → (bases : ℕ → ℕ) (registers : List ℕ) →
         AreIn from.now.row registers → AreFormed from.now.forms bases registers →

@@ -24,10 +24,10 @@ pub struct Findings<A: Allocator = Global> {
     pub faults: Vec<Refusal, A>,
     /// The calls that may ask for a word that a pool of the given size does not have.
     pub asks: Vec<Refusal, A>,
-    /// The least words of a pool with which no run meets BadPoolIndex, if that was shown.
+    /// Words of a pool with which no run meets BadPoolIndex, if that was shown. Fewer may do.
     pub words: Option<u16>,
-    /// The most instructions from a start or the end of a step up to the next end of a step or of
-    /// the procedure, both counted, if that was shown.
+    /// A bound on the instructions from a start or the end of a step up to the next end of a step
+    /// or of the procedure, both counted, if that was shown.
     pub round: Option<u32>,
     /// Else some slots that may follow one another without end and without the end of a step.
     pub cycle: Vec<u16, A>,
@@ -129,7 +129,7 @@ fn round<A: Allocator>(
 /// What an image can never do, with any arguments, pool, mailbox and answers of engine calls. The
 /// calls that may ask for a missing word are listed for a pool of the given number of words. The
 /// time is linear in the slots: the searches go over them at most 2,000 times, of which at most 50
-/// are for each loop each time that it is tried; the checks go over them once. The memory is linear
+/// are for each loop each time that it is tried; the checks at most ten times. The memory is linear
 /// too: a node and a rank for each slot, and a refusal for each place that is not shown.
 pub fn examine<A: Allocator + Copy>(
     alloc: A,

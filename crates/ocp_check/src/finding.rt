@@ -10,7 +10,7 @@ use crate::certificate::{Node, after_return};
 use crate::checker::{at_start, is_kept_at};
 use crate::covering::{node_at, with_known};
 use crate::form::Form;
-use crate::range::{Range, is_empty, lesser, only, stride_of, sum};
+use crate::range::{Range, WORK_OCTETS, is_empty, lesser, only, stride_of, sum};
 use crate::steps::{after_line, at_call, range_by_test, target};
 use crate::tying::{CELLS, cells_of, narrow_by_forms, ties_of};
 use crate::word::{WORDS, Word};
@@ -18,15 +18,16 @@ use bpf_moves::REGISTERS;
 use bpf_step::{FRAME_OCTETS, MAX_LOCAL_CALLS};
 use bpf_types::{Line, Operand, Reg};
 use ocp_loader::Program;
+use ocp_regions::{ARGUMENT_OCTETS, ARGUMENTS, STACK, STACK_OCTETS, WORK};
 use std::alloc::{AllocError, Allocator};
 
-/// The most often that the slots are gone over.
+/// The most passes over the slots.
 const PASSES: u32 = 64;
 
 /// How often ranges grow as they are.
 const PLAIN_PASSES: u32 = 3;
 
-/// How often they grow to one of the landmarks.
+/// From which pass on a range that grows becomes all numbers.
 const WIDE_PASSES: u32 = 40;
 
 /// How often ranges are narrowed again, if they were widened too far.
@@ -35,7 +36,8 @@ const NARROW_PASSES: u32 = 3;
 /// The most numbers to which ranges are widened.
 const LANDMARKS: usize = 64;
 
-/// The landmarks of every image: ends of the regions, and of the numbers of fewer octets.
+/// The landmarks of every image: ends of the regions, of an index of one octet in them, and of the
+/// numbers of fewer octets.
 const FIRST_LANDMARKS: [u64; 16] = [
     0,
     1,
@@ -43,16 +45,16 @@ const FIRST_LANDMARKS: [u64; 16] = [
     0x100,
     0xffff,
     0xffff_ffff,
-    0x1000_0000,
-    0x1000_1000,
-    0x2000_0000,
-    0x2000_00fe,
-    0x2000_00ff,
-    0x2000_0100,
-    0x3000_0000,
-    0x3000_00ff,
-    0x3000_0100,
-    0x3000_0400,
+    STACK,
+    STACK + STACK_OCTETS as u64,
+    ARGUMENTS,
+    ARGUMENTS + 0xfe,
+    ARGUMENTS + 0xff,
+    ARGUMENTS + ARGUMENT_OCTETS as u64,
+    WORK,
+    WORK + 0xff,
+    WORK + 0x100,
+    WORK + WORK_OCTETS,
 ];
 
 /// What is known at each slot so far.
@@ -265,6 +267,7 @@ impl<A: Allocator> Search<A> {
     /// What a machine at a slot does next.
     fn flow(&mut self, slot: u16, node: &Node, line: Line) {
         let next = usize::from(slot) + usize::from(line.slots());
+        // A jump without a test shows nothing new: it passes R0 with what is known of it.
         let r0 = Reg::zero();
         match line {
             Line::Jump { distance } => {
@@ -388,7 +391,7 @@ fn unkept<A: Allocator>(program: &Program<A>, certificate: &[Option<Node>]) -> u
     count
 }
 
-/// A search at its begin: what is known of a machine that is started is known at the first slot.
+/// A new search: the first slot has what is known of a machine that is started.
 fn search_from<A: Allocator + Copy>(
     alloc: A,
     slots: usize,
@@ -411,7 +414,7 @@ fn search_from<A: Allocator + Copy>(
 }
 
 /// What is known at each slot by what was known at the slots before it: no more numbers than there,
-/// and fewer where a range was widened too far.
+/// and fewer if a range was widened too far.
 fn narrower<A: Allocator + Copy>(
     alloc: A,
     program: &Program<A>,
@@ -450,7 +453,7 @@ fn narrow<A: Allocator + Copy>(
     Ok(true)
 }
 
-/// What is known at each slot that may be reached: a certificate, if the search came to its end.
+/// What is known at each slot that may be reached: a certificate, if the search finished.
 pub(crate) fn find<A: Allocator + Copy>(
     alloc: A,
     program: &Program<A>,

@@ -7,13 +7,10 @@ ghost use Rattle.bpf_values.specs.Value.{arithmetic_result, is_taken, modulus, p
 ghost use Rattle.ocp_check.specs.Mirror.Ranges.{IsIn, IsMultiple, IsThere, half_of, just, test_without_signs};
 
 use bpf_types::{Comparison, Operation, Width};
-use ocp_regions::{ARGUMENT_OCTETS, ARGUMENTS, STACK, STACK_OCTETS};
+use ocp_regions::{ARGUMENT_OCTETS, ARGUMENTS, STACK, STACK_OCTETS, WORK};
 
-/// The first address of the work region.
-const WORK: u64 = 0x3000_0000;
-
-/// How many octets the work region has under every profile.
-const WORK_OCTETS: u64 = 1024;
+/// How many octets of the work region every profile has: those of profile 1.
+pub(crate) const WORK_OCTETS: u64 = 1024;
 
 /// Numbers of which each is a multiple of one, two, four or eight.
 #[derive(Clone, Copy, PartialEq, Eq, Debug)]

@@ -17,10 +17,10 @@ use bpf_types::{Line, Reg};
 use ocp_loader::Program;
 use std::alloc::{AllocError, Allocator};
 
-/// The most often that the slots are gone over at the end.
+/// The most passes over the slots for the final ranks.
 const PASSES: u32 = 64;
 
-/// The most often that they are gone over for one register of one loop.
+/// The most passes for one register of one loop.
 const LOOP_PASSES: u32 = 12;
 
 /// The most loops.
@@ -43,7 +43,7 @@ struct Span {
 }
 
 impl Span {
-    /// A place is among them.
+    /// Whether a place is among them.
     fn holds(self, place: usize) -> bool {
         self.first <= place && place <= self.last
     }
@@ -55,8 +55,8 @@ struct Loop {
     span: Span,
     /// It is known to end.
     is_done: bool,
-    /// In how many turns it was tried.
-    tries: u32,
+    /// The first turn in which it may be tried again.
+    next_turn: u32,
 }
 
 /// Where the search for a weight ends: at the ends of a loop, and at changes of a register.
@@ -211,7 +211,7 @@ fn is_watched(slot: usize, cut: Option<Cut>) -> bool {
 }
 
 /// How a line counts in a register, by what is known of the register before it.
-fn counter_at(node: &Node, line: Line, register: Reg) -> Option<Counter> {
+fn counter_by_line(node: &Node, line: Line, register: Reg) -> Option<Counter> {
     let Step::By(by) = step_of_line(node, &line) else {
         return None;
     };
@@ -254,7 +254,7 @@ fn counter_of<A: Allocator>(
     for slot in 0..program.slots() as u16 {
         if let (Some(node), Some(line)) = (node_at(nodes, slot), program.line_at(slot)) {
             if span.holds(usize::from(slot)) && changes(line, register.number()) {
-                let one = counter_at(&node, line, register)?;
+                let one = counter_by_line(&node, line, register)?;
                 found = Some(match found {
                     Some(other) => wider(other, one)?,
                     None => one,
@@ -388,13 +388,14 @@ impl<A: Allocator> Ranking<A> {
         }
         let mut tries = 0;
         for number in 0..10 {
+            if tries >= TRIES {
+                return Ok(false);
+            }
             if let Some(register) = Reg::new(number) {
                 if let Some(counter) = counter_of(program, nodes, span, register) {
-                    if tries < TRIES {
-                        tries += 1;
-                        if self.count_by(program, nodes, span, counter)? {
-                            return Ok(true);
-                        }
+                    tries += 1;
+                    if self.count_by(program, nodes, span, counter)? {
+                        return Ok(true);
                     }
                 }
             }
@@ -431,7 +432,7 @@ fn note_loop<A: Allocator>(
         loops.push(Loop {
             span: Span { first, last },
             is_done: false,
-            tries: u32::from(!are_joined),
+            next_turn: u32::from(!are_joined),
         })?;
     }
     Ok(())
@@ -459,7 +460,7 @@ fn shortest(loops: &[Loop], turn: u32) -> Option<usize> {
     let mut length = usize::MAX;
     for (k, one) in loops.iter().enumerate() {
         let its = one.span.last.saturating_sub(one.span.first);
-        if !one.is_done && one.tries <= turn && its < length {
+        if !one.is_done && one.next_turn <= turn && its < length {
             length = its;
             found = Some(k);
         }
@@ -478,7 +479,7 @@ fn count_in_loops<A: Allocator>(
         for _ in 0..LOOPS {
             if let Some(k) = shortest(loops, turn) {
                 if let Some(one) = loops.get_mut(k) {
-                    one.tries = turn + 1;
+                    one.next_turn = turn + 1;
                     one.is_done = ranking.count(program, nodes, one.span)?;
                 }
             }
@@ -487,7 +488,7 @@ fn count_in_loops<A: Allocator>(
     Ok(())
 }
 
-/// Ranks of the slots, if the search came to its end: at least how many instructions may follow
+/// Ranks of the slots, if the search finished: at least how many instructions may follow
 /// before the step or the local call ends.
 pub(crate) fn find_ranks<A: Allocator + Copy>(
     alloc: A,
@@ -533,7 +534,7 @@ fn greater(ranks: &[Rank], first: Option<usize>, second: usize) -> usize {
 }
 
 /// The place that follows a line with the greatest rank, unless the step or the call ends.
-fn place_after(ranks: &[Rank], slot: u16, line: Line, depth: u8) -> Option<usize> {
+fn highest_place_after(ranks: &[Rank], slot: u16, line: Line, depth: u8) -> Option<usize> {
     let next = usize::from(slot) + 1;
     match line {
         Line::Jump { distance } => target(slot, i32::from(distance)),
@@ -555,7 +556,7 @@ fn place_after(ranks: &[Rank], slot: u16, line: Line, depth: u8) -> Option<usize
 fn slot_after<A: Allocator>(program: &Program<A>, all: &Ranks<'_>, slot: u16) -> Option<u16> {
     let node = node_at(all.nodes, slot)?;
     let line = program.line_at(slot)?;
-    u16::try_from(place_after(all.ranks, slot, line, node.depth)?).ok()
+    u16::try_from(highest_place_after(all.ranks, slot, line, node.depth)?).ok()
 }
 
 /// The slot with the greatest rank.

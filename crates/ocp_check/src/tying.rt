@@ -1,4 +1,5 @@
-//! Which registers are tied to one another at a place to which machines come from several slots.
+//! Which registers and words are tied to one another at a place to which machines come from several
+//! slots.
 //! Nothing rests on it: `check` tests what it finds.
 
 use crate::certificate::Node;
@@ -237,7 +238,7 @@ fn with_all_adopted(
     common(old, &more)
 }
 
-/// The forms of registers at a place that is as the old node says, or as the new one.
+/// The forms of cells at a place that is as the old node says, or as the new one.
 pub(crate) fn ties_of(old: &Cells, from: &Cells, may_grow: bool) -> [Option<Form>; CELLS] {
     if may_grow {
         let grown = with_growth(old, from);

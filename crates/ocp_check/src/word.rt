@@ -11,12 +11,13 @@ ghost use Rattle.ocp_check.specs.Mirror.Words.{IsWord, AreWords, IsSameFrom, gre
 use crate::form::{BASES, Form, Forms, form_of_known, is_free, is_of_base, is_shifted};
 use crate::range::{Range, is_within, number_of};
 use ocp_regions::laws::loads_give_what_was_stored;
+use ocp_regions::{STACK, STACK_OCTETS};
 
-/// How many words are known of at a slot, at most.
+/// The most words that are known of at a slot.
 pub(crate) const WORDS: usize = 8;
 
 /// The address after the stack.
-const STACK_END: u64 = 0x1000_1000;
+const STACK_END: u64 = STACK + STACK_OCTETS as u64;
 
 /// A word of the stack: what is known of the number there, and its form.
 #[derive(Clone, Copy, PartialEq, Eq, Debug)]
@@ -95,7 +96,7 @@ pub(crate) fn kept_after(kept: u64, at: Option<Range>, octets: u64) -> u64
     }
 }
 
-/// What is known of the octets that a store writes of a number.
+/// The same range: its numbers are below 2 ^ 64. Kept as one call for its clause.
 fn whole(known: Option<Range>) -> Option<Range>
     ensures { (v : ℕ) → IsIn known v → IsIn result (v % 2 ^ 64) }
 {

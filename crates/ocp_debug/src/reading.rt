@@ -6,7 +6,7 @@ use crate::{DebugFault, View};
 use ocp_table::Table;
 use std::alloc::Allocator;
 
-/// Status, cause, place, depth, what is pending and the registers of a procedure, if it is loaded.
+/// What is shown of a procedure, if it is loaded. It is `Table::view`.
 pub fn view<A: Allocator>(table: &Table<A>, id: u16) -> Option<View>
     ensures { result ≡ view_at (get table.now.records id) }
 {

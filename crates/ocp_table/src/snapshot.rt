@@ -79,7 +79,7 @@ impl<A: Allocator> Snapshot<A> {
         self.execution.copy_from(&procedure.execution);
         self.breakpoints.clear();
         let places = procedure.breakpoints.as_slice();
-        let _fits = self.breakpoints.try_extend_from_slice(places);
+        self.breakpoints.try_extend_from_slice(places).unwrap();
         self.pass = procedure.control.pass;
         self.traced = procedure.traced;
         self.remaining = procedure.remaining;

@@ -3,7 +3,7 @@
 ghost use Rattle.std.specs.Prelude.{◌≤◌};
 
 use crate::packets::{STATUS, activate_loop, is_done, is_taken, suspend_loop, with_loops};
-use crate::scenes::{Scene, Stage, play};
+use crate::scenes::{LIMIT, Scene, Stage, play};
 use ocp_core::replay_one;
 use ocp_slices::{
     CommitOutcome, Engine, Gate, Naming, Open, Seat, SharedEngine, StepOutcome, work,
@@ -13,8 +13,6 @@ use std::sync::Wait;
 use std::sync::atomic::{AtomicU64, Ordering};
 use std::thread;
 use std::thread::Threads;
-
-const LIMIT: u32 = 1_000_000_000;
 
 // A new engine with loops, on which `workers` workers made `turns` turns each.
 fn worked<R: Threads + Wait + Sync, G: Gate + Sync>(

@@ -2,7 +2,7 @@
 
 use crate::boards::Counting;
 use crate::packets::{STATUS, activate_loop, is_taken, load_long, takes, with_loops};
-use crate::scenes::{Scene, Stage, play, play_on};
+use crate::scenes::{LIMIT, Scene, Stage, play, play_on};
 use ocp_slices::{
     Board, CloseFault, CommitOutcome, Engine, Gate, Naming, Seat, SharedEngine, StepOutcome,
     StillShared, Turn,
@@ -12,8 +12,6 @@ use std::sync::Wait;
 use std::sync::atomic::{AtomicU64, Ordering};
 use std::thread;
 use std::thread::Threads;
-
-const LIMIT: u32 = 1_000_000_000;
 
 #[test]
 fn two_threads_wait_for_each_other(rt: HostRuntime) {

@@ -12,6 +12,9 @@ use std::sync::Wait;
 use std::sync::ledger::Blank;
 use std::thread::Threads;
 
+// How often a wait looks before it gives up.
+pub(crate) const LIMIT: u32 = 1_000_000_000;
+
 // What a scene is played with: a runtime, an allocator, and the book of a new engine.
 #[derive(Drop)]
 pub(crate) struct Stage<'r, L: Naming, R> {
@@ -33,7 +36,7 @@ pub(crate) enum Scene {
 }
 
 impl<L: Naming + Send + Sync, R: Threads + Wait + Sync> Stage<'_, L, R> {
-    // Whether all answers are the wanted ones; none if the scene comes to no end.
+    // Whether all answers are the wanted ones; none if the scene does not finish.
     fn play(self, scene: Scene) -> Option<bool> {
         match scene {
             Scene::AskBoard => self.ask_board(),

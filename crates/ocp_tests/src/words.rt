@@ -1,15 +1,13 @@
 //! Seats that write pool words, each in a thread of its own.
 
 use crate::crews::seats_of;
-use crate::scenes::{Scene, Stage, play};
+use crate::scenes::{LIMIT, Scene, Stage, play};
 use ocp_slices::{Engine, Entry, Naming, PutFault, Seat, SharedEngine, StepOutcome};
 use std::alloc::Global;
 use std::sync::Wait;
 use std::sync::atomic::{AtomicU64, Ordering};
 use std::thread;
 use std::thread::Threads;
-
-const LIMIT: u32 = 1_000_000_000;
 
 const SEATS: u16 = 4;
 
