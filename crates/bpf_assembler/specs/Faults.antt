@@ -40,7 +40,7 @@ pub record HasLineFault (text : List ℕ) (number : ℕ) (y : Why) : Type 0 wher
 
 -- ---- faults of the names in instructions, if no line has one of those
 
--- the instruction names a label that is none, or one that is too far
+-- the instruction names a label that no line has, or one that is too far
 abbrev pub MissesLabel : List TextLine → ℕ → Line → Option (List ℕ) → Why → Type 0
 MissesLabel all place given (Some name) why.UnknownLabel = label_place name 0 all ≡ None
 MissesLabel all place given (Some name) why.Range =

@@ -103,7 +103,7 @@ fn image_of<A: Allocator + Copy>(
 
 /// The image of the instructions that a text means, if it may be run under the profile.
 ///
-/// The listing of an image that may be run under it means its instructions, so it gives that image.
+/// If the text is the listing of an image that may be run under the profile, it gives that image.
 ///
 /// Else refused: line by line with Syntax, Range or DuplicateLabel; then in line order with
 /// UnknownLabel, or Range of the distance of a label; then with the fault of the image (`approve`),

@@ -24,9 +24,8 @@ pub fn listings_mean_their_instructions()
     listings_have_a_line_for_each_instruction();
 }
 
-/// The listing of an image that may be run means the instructions of the image, and no others. And
-/// if an image that may be run is that of the instructions that a text means, these are the
-/// instructions of its listing.
+/// The listing of an image that may be run means the instructions of the image, and no others. If
+/// an image that may be run is the image of some instructions, they are those of its listing.
 pub fn admitted_images_are_meant_by_their_listings()
     ensures means { (profile : Profile) (image : List ℕ) (lines : List Line) →
         IsAdmittedAs profile image lines → Means (listing lines) lines }

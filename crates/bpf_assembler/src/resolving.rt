@@ -76,7 +76,8 @@ pub(crate) fn resolve_all<A: Allocator, B: Allocator>(
     Ok(octets)
 }
 
-/// The number of the line of the last instruction whose place is no greater than the slot.
+/// The number of the line of the last instruction whose place is no greater than the slot, or 0 if
+/// there is none.
 pub(crate) fn line_up_to(rows: &[Row<'_>], slot: u16) -> u64
     ensures { IsLineUpTo (map entry rows.now) slot result }
 {

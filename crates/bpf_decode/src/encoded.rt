@@ -49,7 +49,8 @@ impl EncodedLine {
         EncodedLine { octets: slots }
     }
 
-    /// The instruction at a slot, by an earlier decoding.
+    /// The instruction at a slot, counted in slots of 8 octets, that was decoded there before: its
+    /// octets are copied.
     #[inline(always)]
     pub fn at(code: &[u8], slot: usize) -> EncodedLine
         requires inside { 8 * slot + 8 ≤ length code.now }

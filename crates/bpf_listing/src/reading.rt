@@ -9,8 +9,8 @@ use bpf_text::laws::canonical_texts_are_read_back;
 use bpf_text::{Statement, TextLine};
 use bpf_types::Line;
 
-/// The instruction whose canonical text this is, without a newline, or `None` if the text is no
-/// instruction's.
+/// The instruction whose canonical text this is, without a newline, or `None` if the text is not
+/// the canonical one of an instruction.
 pub fn read_line(text: &[u8]) -> Option<Line>
     ensures some { IfSome result (λ line. IsLine line × (text.now ≡ canonical line)) }
     ensures only { (line : Line) → IsLine line → text.now ≡ canonical line → result ≡ Some line }

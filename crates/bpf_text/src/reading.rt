@@ -48,8 +48,9 @@ fn parts_of<'a>(tokens: &[&'a [u8]]) -> Result<TextLine<'a>, LineFault>
 }
 
 /// The label and the instruction of a line, which has no newline: tokens with spaces and tabs
-/// between them, and a comment from `;` on. The numbers are as the line gives them. If a label's
-/// name is in place of a distance, the instruction has distance 0 and the name is returned with it.
+/// between them, and a comment from `;` on. An immediate above 2^31 - 1 means itself minus 2^32. If
+/// a label's name is in place of a distance, the instruction has distance 0 and the name is
+/// returned with it.
 ///
 /// Refused with Syntax if the line does not have the form of one, and then with Range if a number,
 /// or the number of a width, is out of its range. The time is linear in the line.

@@ -8,7 +8,7 @@ ghost use Rattle.bpf_text.specs.Mirror.Scans.{Scans, AfterBlanks, NoBlank};
 pub enum Scan<'a> {
     /// Nothing but blanks and a comment.
     End,
-    /// No token.
+    /// Neither: what follows the blanks begins no token and no comment.
     Bad,
     /// A token and the rest.
     Found(&'a [u8], &'a [u8]),

@@ -57,7 +57,8 @@ impl Extension {
     ghost use Rattle.bpf_types.specs.Line.{extension_width, extension_bits};
     ghost use Rattle.bpf_types.specs.Mirror.{extension_of};
 
-    /// The extension of a class that reads `bits` bits: 8 or 16 in W32; 8, 16 or 32 in W64.
+    /// The extension of a class that reads `bits` bits, 8 or 16 in W32 and 8, 16 or 32 in W64, or
+    /// `None` for another number.
     pub fn new(width: Width, bits: u64) -> Option<Self>
         ensures exact { result ≡ extension_of width bits }
         ensures some { IfSome result
@@ -122,7 +123,7 @@ impl SwapWidth {
     ghost use Rattle.bpf_types.specs.Line.{swap_width_bits};
     ghost use Rattle.bpf_types.specs.Mirror.{swap_width_of};
 
-    /// The width of `bits` bits: 16, 32 or 64.
+    /// The width of `bits` bits: 16, 32 or 64, or `None` for another number.
     pub fn new(bits: u64) -> Option<Self>
         ensures exact { result ≡ swap_width_of bits }
         ensures some { IfSome result (λ w. swap_width_bits w ≡ bits) }

@@ -2,11 +2,11 @@
 
 use std::fmt;
 
-/// From how many on, octets that are the same are shown as one and their number.
+/// The shortest run of equal octets that is shown as one and its length.
 const LONG_RUN: usize = 16;
 
-/// Octets in the form of an argument: `-` for none, else hexadecimal digits, where 16 and more that
-/// are the same and stand side by side are a piece of their own, as `00*20`.
+/// Octets in the form of an argument: `-` for none, else hexadecimal digits. 16 or more equal
+/// octets in a row are a piece of their own, as `00*20`.
 #[derive(Clone, Copy)]
 pub struct Octets<'a>(pub &'a [u8]);
 

@@ -1,4 +1,4 @@
-//! Calls that make an engine, or change it: by itself, or by the book of its seats.
+//! Calls that change an engine: by itself, or by the book of its seats.
 
 ghost use Rattle.std.specs.Prelude.{◌≤◌, IfOk};
 

@@ -1,10 +1,11 @@
 //! `lib_driver`: calls of the libraries, a line each, and what they answer, a line each. The form
 //! of a line is that of driver_lines.
 //!
-//! A line makes a thing, as an engine, a table, a machine or a pool, and later lines are calls of
-//! the one made last. `ocp_seats.new` makes a book of the engine; from there on the lines are calls
-//! of the book and of what it shows of the engine, up to a `close` that gives the engine back.
-//! `help` shows the calls of the things that there are, as rows of the page.
+//! A line makes a thing. Of engines, tables and pools later lines call the one made last, of
+//! memories and machines the one whose number they have. `ocp_seats.new` makes a book of the
+//! engine; from there on the lines are calls of the book and of what it shows of the engine, up to
+//! a `close` that gives the engine back. `help` shows the calls that a line may have, as rows of
+//! the page.
 #![tactic(auto)]
 
 /// The text of a variant: its name, and values of its fields.

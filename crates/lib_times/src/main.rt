@@ -41,14 +41,14 @@ fn error_controls(octets: &[u8], calls: u32) -> u32 {
     sum
 }
 
-/// How long the block took that took least of those that are done, and the last one's sum.
+/// The nanoseconds of the fastest block so far, and the sum over all blocks.
 #[derive(Clone, Copy)]
 struct Timed {
     least: u128,
     sum: u32,
 }
 
-/// Prints a line: with the nanoseconds where blocks are timed, with the sum where they are not.
+/// Prints a line: with the nanoseconds if blocks are timed, else with the sum.
 fn say(
     rt: &HostRuntime,
     blocks: u32,

@@ -4,7 +4,7 @@ use driver_lines::*;
 use ocp_slices::{Entry, Reports};
 use std::fmt;
 
-/// Digits as hexadecimal digits.
+/// Octets as hexadecimal digits.
 #[derive(Clone, Copy)]
 struct Digits<'a>(&'a [u8]);
 

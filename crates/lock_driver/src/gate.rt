@@ -82,7 +82,7 @@ impl fmt::Display for HeardOfSeat {
     }
 }
 
-/// What a gate hears of each seat, since the engine was made.
+/// What a gate hears of each seat, since the book was made or the work began.
 #[derive(Drop)]
 pub(crate) struct Heard {
     seats: Vec<HeardOfSeat>,

@@ -3,7 +3,11 @@
 //! are calls of the book itself. By one thread both print the same.
 //!
 //! `new PROFILE APID WORDS CAPACITY` makes an engine, and its book. The lines after it are calls of
-//! the seats, up to a `close` that gives the engine back; then come calls of the engine alone.
+//! the seats: `seat`, `take`, `run WHICH BUDGET`, `commit SEAT WHICH`, `slice SEAT ID BUDGET`,
+//! `turn SEAT BUDGET`, `turns SEAT BUDGET TURNS`, `heard SEAT`, and events as in driver_lines, up
+//! to a `close` (`close SEAT`: without that seat) that gives the engine back. Then come calls of
+//! the engine alone: `entries`, `pool_word INDEX`, `heard SEAT`, `share`, which makes a book of it
+//! again, and `work CREW BUDGET TURNS`.
 #![tactic(auto)]
 
 mod answers;

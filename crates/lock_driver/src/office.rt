@@ -77,7 +77,7 @@ impl<'r, L: Naming, R: Wait> Office<'r, L, R> {
         }
     }
 
-    /// That many of these turns.
+    /// Makes `turns` such turns.
     pub fn turns(
         &mut self,
         alloc: Global,

@@ -29,7 +29,7 @@ impl<'a> Turns<'a> {
         turn
     }
 
-    /// That many turns.
+    /// Makes `turns` turns.
     pub fn make<L: Naming>(&self, book: &mut Book<L>, seat: &mut Seat<L>, turns: u32) {
         let mut next = None;
         for turn in 0..turns {

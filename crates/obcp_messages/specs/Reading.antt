@@ -40,7 +40,7 @@ with_words octets =
     && nat_le 1 count && nat_le count MAX_WORDS
     then Ok (Communicate (big_number 2 octets) (numbers 8 count (drop 3 octets))) else Err Layout
 
--- an identifier, a budget, a number up to the most, and that number of octets
+-- an identifier, a budget, a number up to 256, and that number of octets
 abbrev pub with_budget : List ℕ → Result Request RequestFault
 with_budget octets =
     if is_counted 6 octets && nat_le (length octets) (8 + MAX_ARGUMENTS_LENGTH)

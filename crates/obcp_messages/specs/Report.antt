@@ -17,7 +17,7 @@ use Rattle.obcp_messages.specs.declared.report.Report.TheVariants as R
 use Rattle.obcp_messages.specs.declared.fault.ReportFault.{ReportFault}
 use Rattle.obcp_messages.specs.declared.fault.ReportFault.TheVariants.{Kind, Layout}
 
--- the service of a report, and its kind in the service (ECSS-E-ST-70-41C, 8.1 and 8.18)
+-- the service of a report (ECSS-E-ST-70-41C, 8.1 and 8.18)
 abbrev pub service_of : Report → ℕ
 service_of (R.Status rows) = 18
 service_of _ = 1

@@ -27,12 +27,12 @@ pub enum Request<'a> {
         budget: u32,
         arguments: Arguments<'a>,
     },
-    /// Stops a procedure at the end of this step.
+    /// Stops a procedure at the end of this step, or of any step if it is 0.
     Stop {
         id: u16,
         step: u16,
     },
-    /// Suspends a procedure at the end of this step.
+    /// Suspends a procedure at the end of this step, or of any step if it is 0.
     Suspend {
         id: u16,
         step: u16,

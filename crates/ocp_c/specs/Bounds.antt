@@ -16,7 +16,7 @@ RequestsHaveFewReports =
     (flown : Flown) (by time : ℕ) (octets : List ℕ) →
     AreWithin 4 68 (packets_in (answer_in flown (Request by time octets)))
 
--- the law: a drain has at most as many reports as the outbox has places, the longest one of a
+-- the law: a drain has at most as many reports as the outbox has room for, the longest one of a
 -- completion that failed
 abbrev pub DrainsHaveFewReports : Type 0
 DrainsHaveFewReports =

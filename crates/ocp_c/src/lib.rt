@@ -1,5 +1,6 @@
 //! The engine for C: one export for each call of the header `ocp_engine.h`. A handle holds an
 //! engine whose journal is handed down, and each export does with it what the engine's call does.
+//! The header gives each call's units, and its refusals in their order.
 #![tactic(auto)]
 
 ghost use Rattle.std.specs.Prelude.{◌≡◌, ◌==◌, if◌then◌else◌, length, slice_get, Ok, Err};
@@ -41,7 +42,7 @@ pub use status::Status;
 use status::write_value;
 use std::alloc::Global;
 
-// The seat of the requests, commands and drains.
+// The seat of every event that a call of C makes.
 pub(crate) const SEAT: u16 = 0;
 
 /// The version of the interface: the major one in the upper 16 bits, the minor one in the lower.

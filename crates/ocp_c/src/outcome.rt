@@ -5,7 +5,8 @@ ghost use Rattle.ocp_c.specs.Calls.{outcome_or};
 
 use ocp_flight::StepOutcome;
 
-/// Its kind as the header numbers them, and the number of the fault if it faulted.
+/// What an instruction did: its kind, numbered as in the header, and the number of its fault, 0
+/// unless it faulted.
 #[repr(C)]
 #[derive(Clone, Copy)]
 pub struct Outcome {

@@ -5,7 +5,7 @@ ghost use Rattle.ocp_c.specs.Reading.{procedure_of, cause_number, fault_of_cause
 
 use ocp_table::{Cause, Pending, View};
 
-/// Its fields are numbers as the header defines them.
+/// What is shown of a procedure, in the fields and numbers of the header's `ocp_view`.
 #[repr(C)]
 #[derive(Clone, Copy)]
 pub struct Procedure {

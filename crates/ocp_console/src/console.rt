@@ -194,7 +194,8 @@ impl<A: Allocator + Copy> Console<A> {
         }
     }
 
-    /// The console after the crew's work, or none if the crew refused: then the engine is lost.
+    /// The console after the crew's work. Refused as the crew refuses, or as `Memory` if the line
+    /// that it prints finds no memory. The engine is then lost.
     pub fn work<C: Crew<Engine<A>>>(
         mut self,
         crew: &C,

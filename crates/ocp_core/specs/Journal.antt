@@ -24,7 +24,7 @@ event_of (event.Trace by id on) = Debug by id (command.SetTrace on)
 event_of (event.Drain by time) = Drain by time
 event_of (event.PutWord by index value) = Put by index value
 
--- the entry that a store gets
+-- the entry that a store is asked to have room for
 abbrev pub note_entry : T.Note → Entry
 note_entry (note.Request by time octets) = Asked by time octets.now
 note_entry (note.Steps by id count) = Steps by id count

@@ -15,8 +15,8 @@ last_outcome w by id last zero = last
 last_outcome w by id last (suc count) =
     last_outcome (after w (Step by id)).world by id (next_outcome w id) count
 
--- the mark of an entry, by the world before it: the reports of a request or of a drain, or the
--- outcome of the last instruction
+-- the mark of an entry, by the world before it: the reports of a request or of a drain, the outcome
+-- of the last instruction, or the result of a debugger's command or of a write
 abbrev pub mark_in : World → Entry → Answer
 mark_in w (Asked by time octets) = (after w (Request by time octets)).answer
 mark_in w (Steps by id count) = Stepped (last_outcome w by id S.Ran count)

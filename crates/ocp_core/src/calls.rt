@@ -18,9 +18,11 @@ use ocp_world::{Extent, State, discard_of};
 use pus_fields::read_tc;
 use std::alloc::Allocator;
 
-/// Does instructions of one procedure, at least one, until the budget is used, the procedure no
-/// longer runs, or an instruction is refused, ends it or faults; a round also ends with the first
-/// instruction that ends a step. They are one entry, or none if none was done.
+/// Does instructions of one procedure until the budget is used, the procedure no longer runs, or an
+/// instruction ends it or faults; a round also ends with the first instruction that ends a step.
+/// They are one entry. Refused, in this order, if the procedure is not loaded, if it is not
+/// running, and if there is no room for the entry: then the count is 0, the last outcome is the
+/// refusal, and nothing is changed.
 #[inline(always)]
 pub fn instructions<S: Store, A: Allocator>(
     store: &mut S,

@@ -177,9 +177,10 @@ impl<A: Allocator> Engine<A> {
         calls::step(&mut self.journal, &mut self.state, by, id)
     }
 
-    /// Does instructions of one procedure, at least one, until the budget is used, the procedure no
-    /// longer runs, or an instruction is refused, ends it or faults. They are one journal entry, or
-    /// none if none was done.
+    /// Does instructions of one procedure until the budget is used, the procedure no longer runs,
+    /// or an instruction ends it or faults. They are one journal entry. Refused, in this order, if
+    /// the procedure is not loaded, if it is not running, and if the journal is full: then the
+    /// count is 0, the last outcome is the refusal, and nothing is changed.
     pub fn slice(&mut self, by: u16, id: u16, budget: u32) -> Slice
         requires { 1 ≤ budget }
         ensures within { result.count ≤ budget }
@@ -249,8 +250,8 @@ impl<A: Allocator> Engine<A> {
         &self.journal
     }
 
-    /// How many events there were: a request is one, each instruction is one, and a drain is one.
-    /// It is the number of the next event.
+    /// How many events were accepted: each instruction is one, and so is each request, debugger's
+    /// command, drain and write of a pool word. It is the number of the next event.
     pub fn events(&self) -> u64
         ensures value { result ≡ length (expand self.now.entries) }
         ensures number { result ≡ (world_of self.now).events }

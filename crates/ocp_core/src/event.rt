@@ -95,7 +95,7 @@ pub enum Entry<A: Allocator = Global> {
     },
 }
 
-/// An entry as a store gets it: its octets are borrowed, and it has no mark.
+/// An entry that a store is asked to have room for: its octets are borrowed, and it has no mark.
 #[derive(Clone, Copy)]
 pub enum Note<'a> {
     Request {

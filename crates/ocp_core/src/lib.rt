@@ -1,6 +1,6 @@
 //! The engine: requests as telecommand packets, instructions of the procedures that they load, a
-//! debugger's commands, drains of the completions that wait, and a journal whose replay is the
-//! engine's state.
+//! debugger's commands, drains of the completions that wait, writes of pool words from outside, and
+//! a journal whose replay is the engine's state.
 #![tactic(auto)]
 
 mod answers;

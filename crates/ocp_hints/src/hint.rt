@@ -5,13 +5,13 @@ ghost use Rattle.ocp_hints.specs.Columns.{IsWithin};
 use std::alloc::{AllocError, Global};
 use std::fmt::{self, Display};
 
-/// The most octets that are shown of a line before the mark or of a word, and of a line.
+/// The most octets that are shown of a line before the mark, or of a word.
 pub(crate) const SHOWN_BEFORE: usize = 60;
 
+/// The most octets that are shown of a line.
 const SHOWN: usize = 120;
 
-/// A hint: a line as it was read, a mark under what was unexpected, and one sentence of what may
-/// stand there.
+/// A hint: a line as it was read, a mark under what was unexpected, and one sentence on it.
 #[derive(Drop)]
 pub struct Hint<'a> {
     /// What is shown of the input.

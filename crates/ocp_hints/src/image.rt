@@ -16,7 +16,7 @@ pub(crate) const SLOT_DIGITS: usize = 16;
 /// The sentence on digits that are no pairs.
 pub(crate) const ODD: &[u8] = b"the number of hexadecimal digits is even";
 
-/// What no image may have at a place.
+/// Octets that no image may have, with the sentences on them.
 static MARKS: Table = b"\t..: this is a tab, and digits are in one row
 \xef\xbb\xbf..: this is a byte order mark: save the file without it
 0x..|0X..|\\x..: digits come alone, with nothing before them

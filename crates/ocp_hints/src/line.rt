@@ -8,7 +8,7 @@ use ocp_profile::Profile;
 use std::alloc::Global;
 use text_lines::first_line;
 
-/// What no line may have at a place.
+/// Octets that no line may have, with the sentences on them.
 pub(crate) static MARKS: Table = b"\t..: this is a tab, and spaces separate words
 \r..: this is a carriage return inside of the line
 \xef\xbb\xbf..: this is a byte order mark: save the file without it

@@ -33,7 +33,7 @@ static REQUESTS: Table = b" <id> [<hex>]: 65535 0a
  <id>: 65535
 :";
 
-/// What may stand in the parts of forms that are no numbers.
+/// What is expected in the parts of forms that are no numbers.
 static PARTS: Table = b"0x..: an address is 0x and 1 to 16 hexadecimal digits
 on..: a switch is on or off
 <verb>: a verb of send is one of load, unload, activate, stop, suspend, resume, abort, \

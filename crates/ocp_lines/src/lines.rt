@@ -138,7 +138,7 @@ impl<A: Allocator> Lines<A> {
         Ok(true)
     }
 
-    /// The same if no newline is held.
+    /// Finds the next line as `next` does, if no newline is held or 100,000 lines were read.
     fn read<R: Source>(&mut self, reader: &mut R) -> Result<Option<u32>, ConsoleFault>
         requires device { R.failed_reads reader.old < 2 ^ 64 - 1 }
         requires end { is_at_end self.old ≡ true → IsAtEnd (R.remaining reader.old) }

@@ -1,4 +1,5 @@
-//! The reports of a request, octet for octet: where they go, what they contain, and their packets.
+//! The reports of requests and drains, octet for octet: where they go, what they contain, and their
+//! packets.
 #![tactic(auto)]
 
 mod buffer;

@@ -1,4 +1,4 @@
-//! The reports of a request as telemetry packets.
+//! The reports of requests and drains as telemetry packets.
 
 ghost use Rattle.std.specs.Prelude.{◌≡◌, ◌≤◌, ◌+◌, ◌%◌, ◌++◌, ◌∷◌, [], length};
 ghost use Rattle.std.specs.Option.{option_to_list};

@@ -75,7 +75,9 @@ impl<L: Naming, A: Allocator> Book<L, A> {
         }
     }
 
-    /// The next seat, whose receipts have room for all entries that the engine still has room for.
+    /// The next seat, whose receipts have room for each entry that may come after the book's start.
+    /// Refused, in this order, if all 64 seats are given out, and if there is no memory for the
+    /// receipts; then nothing is changed.
     pub fn seat(&mut self, alloc: A) -> Result<Seat<L, A>, SeatFault>
         ensures ok { IfOk result (λ seat. HandsOut self.old self.new seat) }
         ensures err { IfErr result (λ why. (self.new ≡ self.old) × RefusesSeat self.old why) }

@@ -102,6 +102,7 @@ impl<L: Naming, A: Allocator> Seat<L, A> {
     {
         tally.add(&mut self.share, 1);
         tally.audit(&mut self.share);
+        // There are no more entries than the capacity, by the contract of `len`.
         let _within = engine.journal().len();
         self.receipts.push_reserved(entry);
     }

@@ -11,7 +11,8 @@ use std::alloc::Global;
 /// state their whole meaning. This trait states what a caller of the lock can know: what its own
 /// seat gains, and that it gets the board's answer.
 pub trait Board<L: Naming> {
-    // What it may answer. If this may be any relation, an answer is known to be one only if the board gave it.
+    // The answers that it may give. A caller is proved for every such relation, so it knows an
+    // answer to be in it only if the board gave that answer.
     ghost answers: { Reply → Type 0 } = { λ _. Unit {0} };
 
     /// The next seat.

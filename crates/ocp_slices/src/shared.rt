@@ -19,8 +19,8 @@ use std::sync::ledger::Blank;
 use std::sync::{Mutex, MutexGuard, Wait};
 
 /// How often a thread checks whether the lock is free before it sleeps, and how often it pauses
-/// between two checks: about a millisecond in all. The lock is held for less than a microsecond,
-/// and a sleeping thread takes longer to wake.
+/// between two checks: about a millisecond in all. Most turns hold the lock for less than a
+/// microsecond, and a sleeping thread takes longer to wake.
 const LOOKS: u32 = 8_000;
 
 const PAUSES: u32 = 2;
@@ -84,7 +84,7 @@ impl<L: Naming, B: Board<L>> SharedEngine<L, B> {
 
     /// A ticket for the running procedure with the least id above the one taken last by any seat,
     /// else with the least id. Refused, in this order, if none runs, and if there is no memory for
-    /// the two copies of its machine.
+    /// the copy of its program and the two copies of its machine.
     pub fn take<R: Wait>(&self, rt: &R, alloc: Global) -> Result<Ticket, TakeFault>
         ensures given { B.answers (TakeReply result) }
     {
@@ -92,8 +92,8 @@ impl<L: Naming, B: Board<L>> SharedEngine<L, B> {
     }
 
     /// Puts a work's instructions into its procedure. Refused, in this order, if there are none, if
-    /// the procedure is not what the work began with, and if the journal is full; the work is
-    /// dropped then.
+    /// the procedure is not what the work began with, and if the journal is full; then nothing is
+    /// changed. The work is dropped in any case.
     pub fn commit<R: Wait>(&self, rt: &R, seat: &mut Seat<L>, mut work: Work) -> CommitOutcome
         ensures handed_in { IsHandedIn B.answers seat.old seat.new work result }
     {

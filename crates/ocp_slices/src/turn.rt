@@ -145,8 +145,9 @@ impl<L: Naming, B: Board<L>> SharedEngine<L, B> {
         (turn, next)
     }
 
-    /// Makes `turns` turns, one after the other. It takes the lock once between two of them. From
-    /// the second on none asks for memory, if all procedures have machines of one size.
+    /// Makes `turns` turns, one after the other. It takes the lock once between two of them. After
+    /// a turn that had a ticket none asks for memory, if all machines have one size, as those of
+    /// one engine have.
     pub fn turns<R: Wait, G: Gate>(
         &self,
         rt: &R,

@@ -54,17 +54,17 @@ fn write_octets(digits: &[u8], octets: &mut [u8])
 /// octets or one that is no digit. They replace the content of the given vector. Memory is refused
 /// only if they do not fit into its capacity.
 pub fn octets_of<'a, A: Allocator>(
-    place: &'a mut Vec<u8, A>,
+    out: &'a mut Vec<u8, A>,
     digits: &[u8],
 ) -> Result<Option<&'a [u8]>, AllocError>
     ensures octets { IfOk result
         (λ octets. option_map (λ octets. octets.now) octets ≡ result_ok (decode_of digits.now)) }
-    ensures memory { OnErr result (vec_capacity place.old < length digits.now / 2) }
+    ensures memory { OnErr result (vec_capacity out.old < length digits.now / 2) }
 {
     if digits.len() % 2 != 0 || !are_digits(digits) {
         return Ok(None);
     }
-    place.resize(digits.len() / 2, 0)?;
-    write_octets(digits, place.as_mut_slice());
-    Ok(Some(place.as_slice()))
+    out.resize(digits.len() / 2, 0)?;
+    write_octets(digits, out.as_mut_slice());
+    Ok(Some(out.as_slice()))
 }

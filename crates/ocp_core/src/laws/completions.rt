@@ -11,8 +11,8 @@ pub fn each_completion_stands_in_one_place()
     ensures room { PlacesSuffice }
 {}
 
-/// So at most one completion report is sent for it. Each completion that waits gives one report,
-/// whenever a drain comes.
+/// At most one completion report is sent for a stop or suspend that became pending. Each completion
+/// that waits gives one report, whenever a drain comes.
 pub fn completions_are_reported_once_at_most()
     ensures report { IsReportedOnceAtMost }
     ensures drain { EachGivesOneReport }
