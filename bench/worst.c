@@ -13,7 +13,7 @@
 #define rattle_alloc fixed_alloc
 #define rattle_realloc fixed_realloc
 #define rattle_dealloc fixed_dealloc
-#include "fixed_heap.c"
+#include "heap.c"
 #undef memcpy
 
 #ifdef BARE

@@ -1,8 +1,8 @@
 /* Each call of the library with wrong arguments, and ocp_open with each of its pieces of memory refused in turn: it gives the
  * status that the header names, and nothing else is changed. No call but ocp_open and ocp_close may call the heap. This file has
  * the heap functions itself, so it is linked with no other. */
-#include "fixed_heap.h"
 #include "ocp_engine.h"
+#include "ocp_heap.h"
 #include "telecommand.h"
 
 #include <inttypes.h>

@@ -1,7 +1,7 @@
-/* The engine's memory from one static block, in place of liblibc_c.a: no call of malloc anywhere. See fixed_heap.h.
+/* The engine's memory from one static block, in place of liblibc_c.a: no call of malloc anywhere. See ocp_heap.h.
  *
  * The block has FIXED_HEAP_OCTETS octets, a multiple of 16: cc -DFIXED_HEAP_OCTETS=1048576 .. */
-#include "fixed_heap.h"
+#include "ocp_heap.h"
 
 #include <stdalign.h>
 #include <string.h>

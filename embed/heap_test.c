@@ -1,7 +1,7 @@
-/* Tests of fixed_heap.c over a block that is just as large as ocp_size says for one engine: pieces, refusals, and engines that
+/* Tests of heap.c over a block that is just as large as ocp_size says for one engine: pieces, refusals, and engines that
  * are opened and closed in it again and again. */
 #define FIXED_HEAP_OCTETS 833248
-#include "fixed_heap.c"
+#include "heap.c"
 #include "ocp_engine.h"
 
 #include <stdint.h>

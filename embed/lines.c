@@ -5,8 +5,8 @@
  *
  * The engine's journal is written to the file JOURNAL, if one is named. Status: 0 done, 1 a line that is none of these,
  * 2 wrong words, 3 no engine. */
-#include "journal_file.h"
 #include "ocp_engine.h"
+#include "ocp_journal.h"
 #include "show.h"
 #include "words.h"
 

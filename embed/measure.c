@@ -1,11 +1,11 @@
-/* What slices and requests take of time: processor time, the least of several rounds, over the heap of fixed_heap.c.
+/* What slices and requests take of time: processor time, the least of several rounds, over the heap of heap.c.
  * Instructions, stack and heap are counted by bench/worst.
  *
  *   cc -O2 measure.c libocp_c.a -o measure && ./measure */
 #define _POSIX_C_SOURCE 200809L
-#include "fixed_heap.c"
-#include "numbers.h"
+#include "heap.c"
 #include "ocp_engine.h"
+#include "ocp_octets.h"
 #include "telecommand.h"
 
 #include <inttypes.h>

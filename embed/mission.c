@@ -13,10 +13,10 @@
  * views of both procedures and the pool, as `replay` does, and on standard error how many calls a full journal refused.
  *
  * Status: 0 done, 1 a check fails, and one line says which, 2 wrong words. */
-#include "fixed_heap.h"
-#include "journal_file.h"
-#include "numbers.h"
 #include "ocp_engine.h"
+#include "ocp_heap.h"
+#include "ocp_journal.h"
+#include "ocp_octets.h"
 #include "show.h"
 #include "telecommand.h"
 #include "turns.h"

@@ -2,7 +2,7 @@
  *
  *   replay FILE.. [--until EVENT] [--view ID].. [--reports]
  *
- * The files are one journal in parts, in their order; `journal_file.h` has its form. Entries are read, given and released one by
+ * The files are one journal in parts, in their order; `ocp_journal.h` has its form. Entries are read, given and released one by
  * one, so a journal of any length takes no more memory than the engine. The replay ends after the last entry, or after EVENT
  * events. It prints the number of events, the view of each procedure ID, and the pool, in the lines of the console. With
  * --reports it compares the engine's reports with those on standard input, which came down, octet for octet.
@@ -10,11 +10,9 @@
  * If the journal is cut or damaged, or the reports differ, a line says where, and everything before it is used.
  *
  * Status: 0 done, 1 cut, damaged, different, or fewer events than EVENT, 2 wrong words, 3 no engine. */
-#include "entry.h"
-#include "journal_file.h"
-#include "journal_reader.h"
-#include "numbers.h"
 #include "ocp_engine.h"
+#include "ocp_journal.h"
+#include "ocp_octets.h"
 #include "show.h"
 #include "words.h"
 

@@ -6,7 +6,7 @@ As a module: `Request` and its functions (`load`, `activate`, ..) make telecomma
 reports that are missing. As a command:
 
     ground.py --tcp 10018 load 7 procedure.hex      one request, or several with `then` between them
-    ground.py --pipe 'examples/ground/engine' load 7 procedure.hex then activate 7 0414 then status
+    ground.py --pipe 'ground/engine' load 7 procedure.hex then activate 7 0414 then status
     ground.py --print status                        the packet in hexadecimal digits, without an engine
 
 The formats are those of docs/PROFILE.md: CCSDS 133.0-B space packets, ECSS-E-ST-70-41C services 1 and 18.
@@ -54,7 +54,7 @@ KEPT = 10000
 # seconds that an engine has to take a telecommand, and to end when its input has ended
 PATIENCE = 3.0
 LONGEST_WAIT = 86400
-OCP = os.fspath(Path(__file__).resolve().parent.parent.parent / "ocp")
+OCP = os.fspath(Path(__file__).resolve().parent.parent / "ocp")
 
 
 class PacketFault(Exception):
@@ -509,7 +509,7 @@ FORMS = {"load": "ID FILE", "unload": "ID", "activate": "ID [HEX] [BUDGET]", "st
 
 
 def image_of(file):
-    """The octets of a file of hexadecimal digits, as `ocp asm` and examples/c/build write it."""
+    """The octets of a file of hexadecimal digits, as `ocp asm` and tools/c_build write it."""
     try:
         return bytes.fromhex(Path(file).read_text())
     except OSError as fault:

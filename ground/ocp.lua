@@ -1,7 +1,7 @@
 -- A dissector of the engine's packets for Wireshark and tshark: telecommands of service 18, reports of services 1 and 18.
 -- The layouts are those of docs/PROFILE.md (CCSDS 133.0-B, ECSS-E-ST-70-41C).
 --
---     tshark -X lua_script:examples/ground/ocp.lua -r FILE
+--     tshark -X lua_script:ground/ocp.lua -r FILE
 --
 -- It reads UDP and TCP port 10018 (preference ocp.port), files of link type USER15 (162), and by Decode As any port. A
 -- datagram may hold several packets; a packet may be parted over TCP segments. Preference ocp.profile says how the data of an

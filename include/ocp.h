@@ -29,11 +29,11 @@ typedef unsigned long word; /* 64 bits */
  * pool_compare_set   (profile 2) writes that word if it has the expected value, and gives the word before
  *
  * An index that the pool does not have is fault 4, and ends the procedure. */
-static word (*const pool_get)(word index) = (void *)1;
-static word (*const pool_set)(word index, word value) = (void *)2;
-static word (*const pool_add)(word index, word value) = (void *)3;
-static word (*const step_end)(word step) = (void *)5;
-static word (*const pool_compare_set)(word index, word expected, word value) = (void *)6;
+static word (*const pool_get)(word index) = (word (*)(word))1;
+static word (*const pool_set)(word index, word value) = (word (*)(word, word))2;
+static word (*const pool_add)(word index, word value) = (word (*)(word, word))3;
+static word (*const step_end)(word step) = (word (*)(word))5;
+static word (*const pool_compare_set)(word index, word expected, word value) = (word (*)(word, word, word))6;
 
 /* The oldest word of the mailbox, which is taken out. Gives 1 if there was one, and else 0. The call also writes R1,
  * which no C function does: so it is in assembly. */

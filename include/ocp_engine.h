@@ -1,6 +1,6 @@
 /* An engine for on-board control procedures: the library libocp_c.a for C and C++.
  *
- * Link libocp_c.a and one heap: liblibc_c.a of the toolchain takes memory from malloc, fixed_heap.c takes it from one block
+ * Link libocp_c.a and one heap: liblibc_c.a of the toolchain takes memory from malloc, heap.c takes it from one block
  * of the program. Only ocp_open asks for memory, and only ocp_open and ocp_close give it back.
  *
  * Rules for all calls:
@@ -12,7 +12,7 @@
  * - One thread at a time uses a handle, one call at a time, never from a signal handler. The program does not copy a handle,
  *   and neither reads nor writes its field.
  * - Two threads may each use a handle of their own. To open and close handles they need heap functions that allow two threads:
- *   malloc does, fixed_heap.c does not.
+ *   malloc does, heap.c does not.
  * - Journal entries of this library have seat 0.
  * - Numbers in packets and entries are big-endian.
  */
@@ -128,7 +128,7 @@ struct ocp_engine {
 uint32_t ocp_open(struct ocp_engine *engine, uint32_t profile, uint32_t apid, uint32_t pool_words, uint32_t entries,
                   uint32_t octets);
 
-/* How many octets ocp_open takes with these numbers of a block whose pieces begin at multiples of 16, as those of fixed_heap.c
+/* How many octets ocp_open takes with these numbers of a block whose pieces begin at multiples of 16, as those of heap.c
  * do; 0 if ocp_open refuses one of them. Needs no handle. Octets:
  *   763,584 + 8 * pool_words + 4 * entries + octets, each of these three rounded up to a multiple of 16 */
 size_t ocp_size(uint32_t profile, uint32_t pool_words, uint32_t entries, uint32_t octets);

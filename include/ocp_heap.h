@@ -1,17 +1,17 @@
-/* The three functions by which the library takes memory, and the block of fixed_heap.c.
+/* The three functions by which the library takes memory, and the block of heap.c.
  *
- * A program links one implementation of them: fixed_heap.c, liblibc_c.a of the toolchain (over malloc), or its own. It owes the
+ * A program links one implementation of them: heap.c, liblibc_c.a of the toolchain (over malloc), or its own. It owes the
  * library what this header states of each function. Only ocp_open takes pieces; it gives them back if it is refused, else ocp_close
  * does.
  *
- * fixed_heap.c passes out a static block from its start, in pieces that begin at multiples of 16. The block is whole again when
+ * heap.c passes out a static block from its start, in pieces that begin at multiples of 16. The block is whole again when
  * the last piece is given back: when the last engine is closed. An engine takes ocp_size(..) octets of it; set the sum of all
  * engines by the compiler's line, as a multiple of 16: cc -DFIXED_HEAP_OCTETS=833248 ..
  *
- * fixed_heap.c is for one thread: two threads that open or close an engine at the same time break the block. A program with such
+ * heap.c is for one thread: two threads that open or close an engine at the same time break the block. A program with such
  * threads brings heap functions that take a lock, or opens and closes all its engines in one thread. */
-#ifndef FIXED_HEAP_H
-#define FIXED_HEAP_H
+#ifndef OCP_HEAP_H
+#define OCP_HEAP_H
 
 #include <stdbool.h>
 #include <stddef.h>

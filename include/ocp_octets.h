@@ -1,7 +1,8 @@
-/* Big-endian numbers of 1 to 8 octets, as in packets and journal entries. */
-#ifndef NUMBERS_H
-#define NUMBERS_H
+/* Octets of packets and journals: big-endian numbers of 1 to 8 octets, and the error control of packets. */
+#ifndef OCP_OCTETS_H
+#define OCP_OCTETS_H
 
+#include <stddef.h>
 #include <stdint.h>
 
 static inline void put_number(uint8_t *octets, uint64_t number, int length)
@@ -16,6 +17,20 @@ static inline uint64_t number_at(const uint8_t *octets, int length)
     for (int at = 0; at < length; at++)
         number = number << 8 | octets[at];
     return number;
+}
+
+/* The error control of packets: x^16 + x^12 + x^5 + 1, preset all ones, four bits at a time. */
+static inline uint16_t error_control(const uint8_t *octets, size_t length)
+{
+    /* the remainder of each four bits, followed by 16 zeros */
+    static const uint16_t remainders[16] = {0x0000, 0x1021, 0x2042, 0x3063, 0x4084, 0x50a5, 0x60c6, 0x70e7,
+                                            0x8108, 0x9129, 0xa14a, 0xb16b, 0xc18c, 0xd1ad, 0xe1ce, 0xf1ef};
+    uint16_t rest = 0xffff;
+    for (size_t at = 0; at < length; at++) {
+        rest = (uint16_t)(rest << 4 ^ remainders[rest >> 12 ^ octets[at] >> 4]);
+        rest = (uint16_t)(rest << 4 ^ remainders[rest >> 12 ^ (octets[at] & 15)]);
+    }
+    return rest;
 }
 
 #endif

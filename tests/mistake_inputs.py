@@ -1,4 +1,4 @@
-"""The inputs of the table .ci/mistakes, as octets."""
+"""The inputs of the table tests/mistakes, as octets."""
 import re
 
 

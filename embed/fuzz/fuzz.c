@@ -10,9 +10,9 @@
  * - it stays within its arguments and its heap, which the sanitizer sees;
  * - a status is one that the call lists, and a refusal changes neither events, room, view nor pool;
  * - the entries, given to a second engine before they are released, give the same reports, events, views and pool. */
-#include "entry.h"
-#include "fixed_heap.h"
 #include "ocp_engine.h"
+#include "ocp_heap.h"
+#include "ocp_journal.h"
 #include "telecommand.h"
 
 #include <stdio.h>

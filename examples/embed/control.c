@@ -17,10 +17,9 @@
  * the pool, as the console prints it.
  *
  * Status: 0 the loop held the temperature, and both engines end alike; 1 it did not, and one line says why; 2 wrong words. */
-#include "entry.h"
-#include "journal_file.h"
-#include "numbers.h"
 #include "ocp_engine.h"
+#include "ocp_journal.h"
+#include "ocp_octets.h"
 #include "show.h"
 #include "telecommand.h"
 #include "turns.h"

@@ -14,9 +14,9 @@
  *
  * Status: 0 the input has ended, 2 wrong words, 3 no engine, no journal, or no output; one line says which. */
 #define _POSIX_C_SOURCE 200809L
-#include "error_control.h"
-#include "journal_file.h"
 #include "ocp_engine.h"
+#include "ocp_journal.h"
+#include "ocp_octets.h"
 #include "turns.h"
 #include "words.h"
 

@@ -2,8 +2,7 @@
 #ifndef TELECOMMAND_H
 #define TELECOMMAND_H
 
-#include "error_control.h"
-#include "numbers.h"
+#include "ocp_octets.h"
 
 #include <stddef.h>
 #include <stdint.h>

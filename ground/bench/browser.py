@@ -147,7 +147,7 @@ def in_c(page):
     page.until("a fault in C", lambda: any(line == 3 and "undeclared" in hint for line, hint in page.marks("text", "fault")), 20)
     page.set("text", "int main(void)\n{ return 0; }\n")
     page.until("a fault of no line is marked at the first", lambda: [line for line, hint in page.marks("text", "fault") if "no function `entry`" in hint] == [1], 20)
-    page.set("text", (Path(__file__).resolve().parent.parent / "c" / "checksum.c").read_text())
+    page.set("text", (Path(__file__).resolve().parents[2] / "examples/c/checksum.c").read_text())
     page.until("a text in C", lambda: "; line" in page.shown("listing"), 20)
     page.set("script", "")
     page.press("Load", "Activate", "Step")

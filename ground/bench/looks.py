@@ -9,7 +9,7 @@ from bounds import Refused, Talk, run
 from console import step_of, words_of
 from passes import mark_of, touched
 
-sys.path.insert(0, str(Path(__file__).resolve().parent.parent / "ground"))
+sys.path.insert(0, str(Path(__file__).resolve().parent.parent))
 import ground  # noqa: E402
 
 KEPT = 256                  # records that the program keeps

@@ -1,6 +1,6 @@
 """The packets of a line, octet by octet: the request that it sends, and the reports that it prints.
 
-The console prints of a packet what is not fixed by the profile; the octets are put together by examples/ground, and the
+The console prints of a packet what is not fixed by the profile; the octets are put together by ground, and the
 tests give them back to the program, as an `up` line in the place of the `send` line.
 """
 import re
@@ -9,7 +9,7 @@ from pathlib import Path
 
 from console import decimal, words_of
 
-sys.path.insert(0, str(Path(__file__).resolve().parent.parent / "ground"))
+sys.path.insert(0, str(Path(__file__).resolve().parent.parent))
 import ground  # noqa: E402
 
 TM = re.compile(r"tm (\d+) (\d+) seq (\d+) dest (\d+) data ([0-9a-f]*)$")

@@ -1,7 +1,7 @@
 """The words before a build of foreign text, so that it can read the compiler and the text, and nothing else.
 
 A text in C reads files: `#include "/etc/passwd"`, `.incbin`. If the system lets a user have a name space of its own, by
-bubblewrap or by `unshare`, a build has a file system of the folders of programs, of examples/c and of the text alone.
+bubblewrap or by `unshare`, a build has a file system of the folders of programs, of include and tools, and of the text alone.
 """
 import functools
 import os
@@ -10,6 +10,8 @@ import sys
 from pathlib import Path
 
 import bounds
+
+TOP = Path(__file__).resolve().parents[2]
 
 SYSTEM = ("/usr", "/bin", "/sbin", "/lib", "/lib32", "/lib64", "/libx32")
 PIECES = ("/etc/alternatives", "/etc/ld.so.cache")
@@ -55,7 +57,7 @@ def folder_of(program):
 
 def shown(room, programs):
     """What a build sees, in the order in which it is put there."""
-    given = [*SYSTEM, *PIECES, "/dev/null", room, Path(__file__).resolve().parent.parent / "c",
+    given = [*SYSTEM, *PIECES, "/dev/null", room, TOP / "include", TOP / "tools",
              *(folder for program in (*programs, sys.executable) for folder in folder_of(program))]
     paths = list(dict.fromkeys(os.fspath(path) for path in given if os.path.exists(path)))
     return sorted(paths, key=lambda path: path.count("/"))

@@ -9,9 +9,8 @@ import bounds
 import shield
 from bounds import OCTETS, Refused, run, sentence
 
-HERE = Path(__file__).resolve().parent
-BUILD = HERE.parent / "c" / "build"
-LINES = HERE.parent / "c" / "lines"
+TOOLS = Path(__file__).resolve().parents[2] / "tools"
+BUILD, LINES = TOOLS / "c_build", TOOLS / "lines"
 FAULTS, SAID = 200, 20_000  # of one text: how many are answered, and characters of the compiler's words
 CLANG = {"CLANG": "clang", "LLVM_OBJCOPY": "llvm-objcopy", "LLVM_READELF": "llvm-readelf", "LLVM_OBJDUMP": "llvm-objdump"}
 SAYS = {"Syntax": "this is no instruction of the assembly: docs/CARD.md has them all",
@@ -103,7 +102,7 @@ class Build:
         return run([*self.words, *words, self.file], "", 16_000, self.file.parent, self.surroundings, self.allowance)
 
     def places(self):
-        """Slot to line by examples/c/lines; what is in a header belongs to the line that includes it."""
+        """Slot to line by tools/lines; what is in a header belongs to the line that includes it."""
         try:
             table, _, status = self.run(os.path.realpath(sys.executable), "-I", "-B", LINES)
         except Refused:

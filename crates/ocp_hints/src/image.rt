@@ -20,7 +20,7 @@ pub(crate) const ODD: &[u8] = b"the number of hexadecimal digits is even";
 static MARKS: Table = b"\t..: this is a tab, and digits are in one row
 \xef\xbb\xbf..: this is a byte order mark: save the file without it
 0x..|0X..|\\x..: digits come alone, with nothing before them
-\x7fELF..: this is an ELF file: examples/c/build makes the image of one
+\x7fELF..: this is an ELF file: tools/c_build makes the image of one
 \r..: this is a carriage return, and a newline alone may end the digits";
 
 /// A mark with the name of a fault of an image, and what it means.

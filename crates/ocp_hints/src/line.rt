@@ -14,8 +14,8 @@ pub(crate) static MARKS: Table = b"\t..: this is a tab, and spaces separate word
 \xef\xbb\xbf..: this is a byte order mark: save the file without it
 \xff\xfe..|\xfe\xff..: this is the byte order mark of UTF-16, and plain ASCII is expected
 \0..: this is a zero octet: the file is UTF-16 or binary, and plain ASCII is expected
-\x7fELF..: this is an ELF file: examples/c/build makes the image of one, and load takes it
-#inc..|#def..: this is C: examples/c/build makes the image of a C text
+\x7fELF..: this is an ELF file: tools/c_build makes the image of one, and load takes it
+#inc..|#def..: this is C: tools/c_build makes the image of a C text
 #0..|#1..|#2..|#3..|#4..|#5..|#6..|#7..|#8..|#9..|#-..: a number has no # in front
 #..|//..|/*..: a comment begins with ;
 =..: a value is set by mov64 <register>, <register or number>
@@ -25,7 +25,7 @@ pub(crate) static MARKS: Table = b"\t..: this is a tab, and spaces separate word
 /// Words that begin no line.
 pub(crate) static STRAYS: Table = b"error: this is the fault line of another command: mend its input
 int|unsigned|static|struct|void|typedef|extern|word: \
-this is C: examples/c/build makes the image of a C text";
+this is C: tools/c_build makes the image of a C text";
 
 /// Who reads a line: the console, or the assembler, which has this fault with it.
 #[derive(Clone, Copy)]

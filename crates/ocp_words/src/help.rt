@@ -1,5 +1,5 @@
 //! The texts of help and of mistakes about the commands. No proof covers these texts;
-//! `.ci/commands` compares them.
+//! `tests/commands` compares them.
 
 /// What `--version` prints after the name.
 pub(crate) const VERSION: &str = "0.1.0";
