@@ -1,0 +1,71 @@
+"""What tests share: where things are, processes with bounds, and what a machine has."""
+from __future__ import annotations
+
+import importlib.machinery
+import importlib.util
+import os
+import shutil
+import subprocess
+import sys
+import tempfile
+import unittest
+from pathlib import Path
+from types import ModuleType
+from typing import Any, ClassVar, Sequence, Union
+
+sys.dont_write_bytecode = True
+ROOT = Path(__file__).resolve().parent.parent
+PROGRAM = Path(os.environ.get("OCP_PROGRAM", ROOT / "crates/ocp/out/ocp")).resolve()
+SECONDS = 60  # that a process may take, if its caller says nothing
+Word = Union[str, int, Path]
+
+
+def run(words: Sequence[Word], given: Any = "", seconds: float = SECONDS, **more: Any) -> subprocess.CompletedProcess[Any]:
+    """Runs a program with a text or octets as its standard input, and keeps what it writes in the same form. A program that takes
+    longer than `seconds` fails the test."""
+    return subprocess.run([str(word) for word in words], input=given, capture_output=True, text=isinstance(given, str),
+                          timeout=seconds, check=False, **more)
+
+
+def ocp(words: Sequence[Word], given: Any = "", **more: Any) -> subprocess.CompletedProcess[Any]:
+    """Runs the built console."""
+    return run([PROGRAM, *words], given, **more)
+
+
+def module_of(path: Path) -> ModuleType:
+    """A script without ending, as a module."""
+    loader = importlib.machinery.SourceFileLoader(path.name, str(path))
+    spec = importlib.util.spec_from_loader(path.name, loader)
+    assert spec is not None
+    module = importlib.util.module_from_spec(spec)
+    loader.exec_module(module)
+    return module
+
+
+def needs(*programs: str) -> Any:
+    """Skips a test, or a class, without one of these programs, and names it. `tools/setup` installs them."""
+    missing = [name for name in programs if not shutil.which(name)]
+    return unittest.skipIf(missing, f"no {' and no '.join(missing)}")
+
+
+class Case(unittest.TestCase):
+    """A group of tests that run one after another; groups run side by side."""
+
+    seconds: ClassVar[int] = 5  # that the group takes on an idle machine: the longest begin first
+    maxDiff = 2000
+
+    def room(self) -> Path:
+        """A folder of the test's own, which is removed after it."""
+        folder = tempfile.TemporaryDirectory()
+        self.addCleanup(folder.cleanup)
+        return Path(folder.name)
+
+    def passes(self, words: Sequence[Word], seconds: float = SECONDS, **more: Any) -> str:
+        """Runs a program that tests by itself, and fails with what it wrote if its status is not 0."""
+        done = run(words, seconds=seconds, **more)
+        if done.returncode != 0:
+            self.fail(f"{words[0]}: status {done.returncode}\n{done.stdout[-4000:]}{done.stderr[-4000:]}")
+        for line in (done.stdout + done.stderr).splitlines():
+            if "skipped" in line and ", 0 skipped" not in line:
+                print(f"skipped: {line}")
+        return str(done.stdout)
