@@ -1,0 +1,144 @@
+"""The checksum of all that the check of a mutant reads. It changes whenever the verdict can, and seldom else.
+
+A proof takes every other function by its contract: the toolchain keeps a function's code and its proof from all others, in its
+crate and above it (`rattle help check`: "private to the function"). So the sum is of
+- the toolchain's version, and the lines of crates.txt of the crate and of those below it;
+- the sources of these crates without the bodies of functions and without comments (tools/mutation/layout.py): signatures, clauses,
+  types, constants, traits, macros; and all their specs;
+- the lemma files of proofs/ that these cite, and the files that those cite;
+- the mutant's own text, the function that it changes with its body, the files of its proof, and the lemma files that they cite.
+Where a mutant changes no single function, as in a table or a definition, all sources and proofs of the crate count. A file in
+proofs/ that is neither a lemma file nor one of a function's proof counts too.
+
+It is made of sources alone: it is the same in each clone and on each machine with the same toolchain.
+"""
+import hashlib
+import re
+from pathlib import Path
+
+from mutation.layout import function_text, interface, lines_of
+
+# Changes whenever what a sum is of changes.
+FORM = "1"
+CITED = re.compile(r"\bRattle\.(\w+)\.proofs\.([^\s{};,()]+)|\b(crate)::proofs::([\w:]+)")
+# What a function's own proof is written in, in proofs/PATH/.
+OF_FUNCTIONS = ("Answers.antt", "Invariants.antt", "Proof.antt")
+
+
+def digest(*parts):
+    """A sum of texts, and of sums of them."""
+    found = hashlib.sha256()
+    for part in parts:
+        octets = part.encode()
+        found.update(len(octets).to_bytes(8, "big") + octets)
+    return found.hexdigest()
+
+
+def listed(top):
+    """The lines of crates.txt, by the crate, each with the crates of the repository that it uses."""
+    lines = {}
+    for line in (top / "crates.txt").read_text(encoding="utf-8").splitlines():
+        head, colon, uses = line.partition("#")[0].partition(":")
+        if colon:
+            lines[head.split()[0]] = " ".join([*head.split(), *sorted(uses.split())]), uses.split()
+    return {name: (line, [use for use in uses if use in lines]) for name, (line, uses) in lines.items()}
+
+
+class Crate:
+    """What others read of a crate, and the files of its proofs."""
+
+    def __init__(self, folder):
+        self.folder, self.name = folder, folder.name
+        self.stated = self.lines("src", "*.rt", interface) | self.lines("specs", "*.antt", lambda text: lines_of(text, ".antt"))
+        self.proofs = self.lines("proofs", "*.antt", lambda text: lines_of(text, ".antt"))
+
+    def lines(self, part, kind, form):
+        """The lines of the files of a part, by their paths."""
+        files = sorted((self.folder / part).rglob(kind))
+        return {file.relative_to(self.folder).as_posix(): form(file.read_text(encoding="utf-8")) for file in files}
+
+    def cited(self, path):
+        """The files that a module's name can lead to."""
+        parts = [part for part in re.split(r"[.:]+", path) if part]
+        names = [f"proofs/{'/'.join(parts[:count])}.antt" for count in range(1, len(parts) + 1)]
+        return [name for name in names if name in self.proofs]
+
+    def loose(self):
+        """The files of proofs/ below a folder that are of no function's proof."""
+        return [name for name in self.proofs if name.count("/") > 1 and Path(name).name not in OF_FUNCTIONS]
+
+    def proof_of(self, mutant):
+        """The files of the proof of the function that a mutant changes. One of a type may be in another file than the type."""
+        return [name for name in self.proofs if any(is_proof(Path(name).parts[1:count], mutant) for count in range(2, len(Path(name).parts)))]
+
+
+def is_proof(parts, mutant):
+    """Whether a folder in proofs/ is of the function that a mutant changes."""
+    if mutant.owner:
+        return parts[-1] == mutant.function and len(parts) > 1 and re.fullmatch(mutant.owner, parts[-2]) is not None
+    return parts == (*mutant.module, mutant.function)
+
+
+class Sums:
+    """The sums of the mutants of a repository."""
+
+    def __init__(self, top, version):
+        self.top, self.version, self.listed, self.crates, self.bases = top, version, listed(top), {}, {}
+
+    def crate(self, name):
+        if name not in self.crates:
+            self.crates[name] = Crate(self.top / "crates" / name)
+        return self.crates[name]
+
+    def below(self, name):
+        """A crate with all that it uses, in the order of their names."""
+        found, left = set(), [name]
+        while left:
+            at = left.pop()
+            if at not in found:
+                found.add(at)
+                left += self.listed.get(at, ("", []))[1]
+        return sorted(found)
+
+    def lemmas(self, crate, texts):
+        """The lemma files that texts of a crate cite, with those that these cite, by crate and path."""
+        found, left = {}, [(crate, text) for text in texts]
+        while left:
+            at, text = left.pop()
+            for one, path, here, inner in CITED.findall(text):
+                name = at if here else one
+                for file in self.crate(name).cited(path or inner) if name in self.listed else []:
+                    if (name, file) not in found:
+                        found[name, file] = "\n".join(self.crate(name).proofs[file])
+                        left.append((name, found[name, file]))
+        return found
+
+    def base(self, name):
+        """What each mutant of a crate rests on: its sum, and the lemma files in it."""
+        if name not in self.bases:
+            parts, lemmas = [FORM, self.version], {}
+            for it in self.below(name):
+                crate = self.crate(it)
+                texts = {path: "\n".join(lines) for path, lines in crate.stated.items()}
+                texts |= {path: "\n".join(crate.proofs[path]) for path in crate.loose()}
+                parts += [self.listed.get(it, (it, []))[0], *(word for pair in texts.items() for word in pair)]
+                lemmas |= self.lemmas(it, texts.values())
+            self.bases[name] = digest(*parts, *spread(lemmas)), lemmas
+        return self.bases[name]
+
+    def of(self, mutant):
+        """The sum of a mutant that can be tried."""
+        crate, (base, known) = self.crate(mutant.crate), self.base(mutant.crate)
+        if mutant.function:
+            text = function_text(mutant.source, mutant.source.index(mutant.pairs[0][0]))
+            own = {("", name): "\n".join(crate.proofs[name]) for name in crate.proof_of(mutant)} | {("", "body"): "\n".join(text)}
+        else:
+            whole = crate.lines("src", "*.rt", lambda text: lines_of(text, ".rt")) | crate.proofs
+            own = {("", name): "\n".join(lines) for name, lines in whole.items()}
+        lemmas = {key: text for key, text in self.lemmas(crate.name, own.values()).items() if key not in known}
+        return digest(base, mutant.name, mutant.text, *spread(own), *spread(lemmas))
+
+
+def spread(texts):
+    """Texts by crate and path, as a list in a fixed order."""
+    return [word for (name, path), text in sorted(texts.items()) for word in (name, path, text)]
