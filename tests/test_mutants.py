@@ -102,13 +102,18 @@ def guarded():
     return ["env"]
 class Crate:
     def __init__(self, folder, root, known):
-        self.folder, self.name, self.rlib = folder, pathlib.Path(folder).name, folder + "/out"
+        self.folder, self.name, self.rlib = folder, pathlib.Path(folder).name, folder + "/out/rlib/it.rlib"
     def words(self, flags, keeps):
         return flags
     def below(self):
-        return []
+        low = pathlib.Path(self.folder).parent / "low"
+        return [Crate(str(low), "", {})] if self.name == "high" else []
     def makes_rlib(self):
         return False
+    def stamp(self):
+        return text_of(self.folder + "/src/lib.rt")
+def text_of(file):
+    return pathlib.Path(file).read_text() if pathlib.Path(file).is_file() else None
 '''
 
 
@@ -329,6 +334,8 @@ class OfCommand(Repository):
         self.write("kit/KIT-ID", "a kit\n")
         for name in ("rt", "rattle"):
             (self.top / "kit/bin" / name).chmod(0o755)
+        self.write("crates/low/out/rlib/it.rlib/format", "")
+        self.write("crates/low/out/rlib/stamp", LOW)
         self.words = {**os.environ, "PATH": f"{self.top}/kit/bin:{os.environ['PATH']}"}
         self.crate = self.top / "crates/high"
 
@@ -355,6 +362,22 @@ class OfCommand(Repository):
         self.assertNotIn("by-four", said)
         status, said = self.run_it("--record", "high")
         self.assertEqual((status, said.count("refused   ")), (0, 1), said)
+
+    def test_libraries_of_other_sources(self):
+        self.change("crates/low/src/lib.rt", "n / 2", "n / 3")
+        for words in (["--record"], ["high"]):
+            status, said = self.run_it(*words)
+            self.assertEqual(status, 2)
+            self.assertIn("not built from these sources: low", said)
+        (self.top / "crates/low/out/rlib/stamp").unlink()
+        self.assertEqual((self.run_it("high")[0], self.run_it("--record")[0]), (0, 2))
+
+    def test_a_source_that_changes_meanwhile(self):
+        self.write("kit/bin/rattle", RATTLE + f"\npathlib.Path('{self.crate}/src/lib.rt').touch()\n")
+        status, said = self.run_it("--record")
+        self.assertEqual(status, 1)
+        self.assertIn("a source changed meanwhile", said)
+        self.assertFalse((self.crate / "mutants.record").exists())
 
     def test_not_refused_is_not_recorded(self):
         for word, verdict, why in (("NONE", "proved", ""), ("BROKEN", "not-tried", "does not compile"), ("MISSING", "not-tried", "names what the edit took away"), ("OTHERS", "not-tried", "no goal of it")):
@@ -413,6 +436,7 @@ class OfCommand(Repository):
         clone = self.top.parent / "clone"
         subprocess.run(["git", "clone", "-q", "--depth", "1", f"file://{self.top}", str(clone)], check=True, capture_output=True)
         self.top = clone
+        shutil.copytree(self.crate.parent / "low/out", clone / "crates/low/out")
         status, said = self.run_it("--sample")
         self.assertEqual((status, said.count("refused   ")), (0, 2), said)
         self.assertIn("this clone has 1 commit", said)

@@ -130,6 +130,19 @@ class Said:
         return None if paths & set(self.failed) else Outcome(PROVED, [], "")
 
 
+def unusable(crate, text_of, is_recording):
+    """The libraries below a crate that are not built, or not from the sources that are there now. `rt ci` leaves libraries without
+    a stamp: what those were built from is not known later."""
+    found = []
+    for it in crate.below():
+        stamp = text_of(f"{os.path.dirname(it.rlib)}/stamp")
+        if not os.path.isdir(it.rlib) or (stamp or is_recording) and stamp != it.stamp():
+            found.append(it.name)
+    if crate.makes_rlib() and not os.path.isdir(crate.rlib):
+        found.append(crate.name)
+    return found
+
+
 def why_no_verdict(status, text):
     """Why a check gave no verdict."""
     if status < 0:
@@ -260,6 +273,8 @@ class Room:
     def try_alone(self, mutant):
         """How a mutant ended, tried in all functions of its module, and if these are proved in the whole crate."""
         here = {path for path in self.functions if mutant.module and path[: len(mutant.module)] == mutant.module}
+        if mutant.module and not self.functions:
+            here = {mutant.module}
         self.make_holes(here)
         found = self.try_everywhere(mutant, flags_of(here)) if here else None
         if found is None or found.verdict == PROVED:

@@ -16,6 +16,7 @@ import hashlib
 import re
 from pathlib import Path
 
+from mutation.edits import PARTS
 from mutation.layout import function_text, interface, lines_of
 
 # Changes whenever what a sum is of changes.
@@ -99,6 +100,12 @@ class Sums:
                 found.add(at)
                 left += self.listed.get(at, ("", []))[1]
         return sorted(found)
+
+    def touched(self, name):
+        """What tells whether a file of a crate, or of one below it, was written since."""
+        files = [file for it in self.below(name) for part in PARTS for file in (self.top / "crates" / it / part).rglob("*")]
+        found = ((str(file), file.lstat()) for file in files)
+        return sorted((file, stat.st_ino, stat.st_size, stat.st_mtime_ns) for file, stat in found)
 
     def lemmas(self, crate, texts):
         """The lemma files that texts of a crate cite, with those that these cite, by crate and path."""
