@@ -15,6 +15,7 @@ from typing import Any, ClassVar, Sequence, Union
 
 sys.dont_write_bytecode = True
 ROOT = Path(__file__).resolve().parent.parent
+sys.path.insert(0, str(ROOT / "tools"))
 PROGRAM = Path(os.environ.get("OCP_PROGRAM", ROOT / "crates/ocp/out/ocp")).resolve()
 SECONDS = 60  # that a process may take, if its caller says nothing
 Word = Union[str, int, Path]
@@ -29,6 +30,8 @@ def run(words: Sequence[Word], given: Any = "", seconds: float = SECONDS, **more
 
 def ocp(words: Sequence[Word], given: Any = "", **more: Any) -> subprocess.CompletedProcess[Any]:
     """Runs the built console."""
+    if not PROGRAM.is_file():
+        raise AssertionError(f"the program is not built: {PROGRAM}. ./ocp build proves and builds it.")
     return run([PROGRAM, *words], given, **more)
 
 
@@ -43,8 +46,9 @@ def module_of(path: Path) -> ModuleType:
 
 
 def needs(*programs: str) -> Any:
-    """Skips a test, or a class, without one of these programs, and names it. `tools/setup` installs them."""
-    missing = [name for name in programs if not shutil.which(name)]
+    """Skips a test, or a class, without one of these programs, and names it with its Debian package, which `tools/setup` installs."""
+    packages = {sign: package for package, (sign, _) in module_of(ROOT / "tools/setup").PACKAGES.items()}
+    missing = [f"{name} (Debian: {packages[name]})" if name in packages else name for name in programs if not shutil.which(name)]
     return unittest.skipIf(missing, f"no {' and no '.join(missing)}")
 
 
