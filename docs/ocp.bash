@@ -10,11 +10,12 @@ _ocp() {
         list) words='--help' ;;
         live) words='--profile --apid --pool --journal --help' ;;
         run) words='--profile --apid --pool --journal --help' ;;
+        test) words='--jobs --help' ;;
         try) words='asm check list run help --help --version' ;;
         help) words='asm check list run' ;;
         *) words='' ;;
     esac
-    [ "$COMP_CWORD" != 1 ] || words='asm check list run help bench build live try --help --version'
+    [ "$COMP_CWORD" != 1 ] || words='asm check list run help bench build live test try --help --version'
     mapfile -t COMPREPLY < <(compgen -W "$words" -- "${COMP_WORDS[COMP_CWORD]}")
 }
 complete -o default -F _ocp ocp ./ocp
