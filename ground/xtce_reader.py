@@ -104,7 +104,8 @@ class Database:
     @staticmethod
     def dynamic(value, values):
         """What a DynamicValue says, from the values that were read or given before."""
-        reference = value.find("ParameterInstanceRef") if value.find("ParameterInstanceRef") is not None else value.find("ArgumentInstanceRef")
+        name = "ArgumentInstanceRef" if value.find("ParameterInstanceRef") is None else "ParameterInstanceRef"
+        reference = value.find(name)
         number = values[reference.get("parameterRef") or reference.get("argumentRef")]
         adjusted = value.find("LinearAdjustment")
         return number if adjusted is None else number * int(adjusted.get("slope")) + int(adjusted.get("intercept"))

@@ -171,9 +171,11 @@ class Source:
 
     def _block(self, match: re.Match[str]) -> Block:
         head = without_arguments(match[3].partition(" where ")[0])
-        first, word, second = head.partition(" for ")
-        owner, trait = (second, last_name(first)) if word and match[2] == "impl" else (head.partition(":")[0] if match[2] == "trait" else head, None)
-        return Block(match[2], last_name(owner), trait, match[1] == "pub ", match.start(), end_of(self.code, match.end() - 1))
+        trait, word, owner = head.partition(" for ")
+        if not word or match[2] == "trait":
+            owner, trait = head.partition(":")[0], ""
+        return Block(match[2], last_name(owner), last_name(trait) or None, match[1] == "pub ", match.start(),
+                     end_of(self.code, match.end() - 1))
 
     @cached_property
     def functions(self) -> tuple[Function, ...]:
@@ -202,7 +204,8 @@ class Source:
 
     @cached_property
     def items(self) -> tuple[Item, ...]:
-        return tuple(Item(match[3], match[4], (match[1] or "").strip(), "extern" in match[2], match.start()) for match in ITEM.finditer(self.code))
+        return tuple(Item(match[3], match[4], (match[1] or "").strip(), "extern" in match[2], match.start())
+                     for match in ITEM.finditer(self.code))
 
     @cached_property
     def exports(self) -> set[str]:
@@ -217,8 +220,8 @@ class Source:
     @cached_property
     def ghost_uses(self) -> tuple[str, ...]:
         """The names that each `ghost use` brings in."""
-        found = [name.split(" as ")[-1].strip() for names, module in GHOST_USE.findall(self.text) for name in (names.split(",") if names else [module])]
-        return tuple(name for name in found if name)
+        found = [name for names, module in GHOST_USE.findall(self.text) for name in (names.split(",") if names else [module])]
+        return tuple(name.split(" as ")[-1].strip() for name in found if name.strip())
 
     def line_of(self, place: int) -> int:
         return self.text.count("\n", 0, place) + 1

@@ -52,7 +52,8 @@ class Page:
 
     def press(self, *wanted):
         for name in wanted:
-            self.script("return [...document.querySelectorAll('button')].find(each => each.textContent === arguments[0])", name).send_keys(self.keys.ENTER)
+            self.script("return [...document.querySelectorAll('button')].find(each => each.textContent === arguments[0])",
+                        name).send_keys(self.keys.ENTER)
             time.sleep(0.4)
 
     def marks(self, area, kind):
@@ -131,7 +132,8 @@ def verdict(page):
     why = "may be AccessOutside: r1 is 0x20000000 to 0x20000100"
     page.until("what may fault", lambda: page.shown("verdict").startswith(f"slot 1   {why}"))
     page.check("page: its line", page.marks("text", "may") == [[3, why]])
-    page.check("page: its slot", page.script("return [...document.querySelectorAll('#listing .may')].map(row => row.dataset.slot)") == ["1"])
+    page.check("page: its slot",
+               page.script("return [...document.querySelectorAll('#listing .may')].map(row => row.dataset.slot)") == ["1"])
     page.set("text", "\tjge64 r2, 256, +2\n\tadd64 r1, r2\n\tldxb r0, [r1]\n\texit\n")
     page.until("what never faults", lambda: page.shown("verdict").startswith("faults 1 2 3   never"))
     page.check("page: no line of it is marked", not page.marks("text", "may"))
@@ -146,7 +148,8 @@ def in_c(page):
     page.check("page: how C begins", "word entry(const octet *arguments, word count)" in page.shown("forms"))
     page.until("a fault in C", lambda: any(line == 3 and "undeclared" in hint for line, hint in page.marks("text", "fault")), 20)
     page.set("text", "int main(void)\n{ return 0; }\n")
-    page.until("a fault of no line is marked at the first", lambda: [line for line, hint in page.marks("text", "fault") if "no function `entry`" in hint] == [1], 20)
+    page.until("a fault of no line is marked at the first",
+               lambda: [line for line, hint in page.marks("text", "fault") if "no function `entry`" in hint] == [1], 20)
     page.set("text", (Path(__file__).resolve().parents[2] / "examples/c/checksum.c").read_text())
     page.until("a text in C", lambda: "; line" in page.shown("listing"), 20)
     page.set("script", "")
@@ -204,7 +207,8 @@ def pending(page):
     page.until("a pending suspend and its drain", lambda: "line 4, suspend 3: completed" in page.shown("rows"))
     page.key(page.keys.END, page.keys.ARROW_LEFT, page.keys.ARROW_LEFT)
     page.until("it is pending", lambda: "pending suspend 2" in page.shown("view"))
-    page.check("page: no report of what is to come", "completed" not in page.shown("reports").split("line 4")[-1] and "accepted" in page.shown("reports"))
+    page.check("page: no report of what is to come",
+               "completed" not in page.shown("reports").split("line 4")[-1] and "accepted" in page.shown("reports"))
     page.check("page: the mailbox", page.shown("mailbox") == "2 of 16, the oldest first: 40, 41")
 
 
@@ -224,7 +228,8 @@ def second_profile(page):
     page.key(page.keys.ARROW_LEFT)
     page.until("its last word", lambda: "30000ff0  00 00 00 00 00 00 00 00  09" in page.shown("memory-work"))
     page.find("profile").send_keys("1")
-    page.until("no budget", lambda: "activate 7 0" in page.shown("rows") and not page.script("return document.getElementById('budget').checkVisibility()"))
+    page.until("no budget", lambda: "activate 7 0" in page.shown("rows")
+               and not page.script("return document.getElementById('budget').checkVisibility()"))
 
 
 def by_keyboard(page):
@@ -246,7 +251,8 @@ def by_keyboard(page):
     for key, name in (("t", "text"), ("s", "script")):
         had = page.find(name).get_attribute("value")
         page.key(key)
-        page.check(f"page: {key} goes into the {name}", page.script("return document.activeElement.id") == name and page.find(name).get_attribute("value") == had)
+        page.check(f"page: {key} goes into the {name}",
+                   page.script("return document.activeElement.id") == name and page.find(name).get_attribute("value") == had)
     page.check("page: rows are reached by keys", page.script("return document.querySelectorAll('#rows .here').length") == 1)
 
 
@@ -338,7 +344,8 @@ def example(page):
     page.set("script", "")
     page.find("example").send_keys(page.keys.ENTER)
     page.until("the example faults", lambda: "Faulted 1" in page.shown("rows") and "fault1" in page.shown("view"))
-    page.until("why it faults", lambda: page.shown("last") == "The last event is the fault of ldxdw r0, [r6+16] at place 12, line 14: r6+16 is 0x13, "
+    page.until("why it faults",
+               lambda: page.shown("last") == "The last event is the fault of ldxdw r0, [r6+16] at place 12, line 14: r6+16 is 0x13, "
                "and all octets of an access have to lie in one region of memory.")
     changed = "return [...document.querySelectorAll('#memory-stack .changed')].map(each => each.textContent).join(' ')"
     for _ in range(5):
@@ -346,7 +353,8 @@ def example(page):
         time.sleep(0.3)
     page.until("the octets of the address", lambda: page.script(changed) == "03 00")
     page.until("the line after the store", lambda: [line for line, _ in page.marks("text", "next")] == [10])
-    page.until("the store in words", lambda: page.shown("last") == "The last event did stxdw [r2+0], r1 at place 7, line 9: r2+0 is 0x10000ff8. It changed "
+    page.until("the store in words",
+               lambda: page.shown("last") == "The last event did stxdw [r2+0], r1 at place 7, line 9: r2+0 is 0x10000ff8. It changed "
                "stack 10000ff8: 00 → 03, 10000ffb: 30 → 00.")
     mended = page.find("text").get_attribute("value").replace("jle64 r1, 3", "jlt64 r1, 3")
     page.set("text", mended)
@@ -363,10 +371,12 @@ def newcomer(page, ocp):
     page.write("script", f"send 9 load 7 {image}\nsend 9 load 7 {image}\n")
     page.until("a load that is refused", lambda: "AlreadyLoaded" in page.shown("rows"))
     page.key(page.keys.END)
-    page.until("the refusal in words", lambda: page.shown("last").startswith("Line 2, load 7: not started: 16 AlreadyLoaded. \"Reload\" puts"))
+    page.until("the refusal in words",
+               lambda: page.shown("last").startswith("Line 2, load 7: not started: 16 AlreadyLoaded. \"Reload\" puts"))
     page.check("page: it is red", page.find("last").get_attribute("class") == "bad")
     page.write("script", f"send 9 load 7 {image}\nstep 7 0\n")
-    page.until("what ends a pass", lambda: "Line 1, load 7: completed. Line 2 is refused, and nothing from there on is run: " in page.shown("last")
+    page.until("what ends a pass",
+               lambda: "Line 1, load 7: completed. Line 2 is refused, and nothing from there on is run: " in page.shown("last")
                and "1 to 1000000" in page.shown("last"))
     page.write("script", f"send 9 load 7 {image}\nsend 1 activate 7\nbreak 7 1\n")
     page.until("a line that prints", lambda: "break 7 1 set" in page.shown("rows"))
@@ -382,11 +392,13 @@ def newcomer(page, ocp):
     page.script("document.getElementById('more-records').open = true")
     page.write("script", f"send 9 load 7 {image}\nsend 1 activate 7\nstep 7 3\n")
     page.until("the record of a call", lambda: "Called r0 0000000000000009" in page.shown("records"))
-    page.check("page: records are not cut", page.script("const box = document.getElementById('records'); return box.scrollWidth <= box.clientWidth"))
+    page.check("page: records are not cut",
+               page.script("const box = document.getElementById('records'); return box.scrollWidth <= box.clientWidth"))
     page.set("text", "mov64 r0, 4660\nexit\n")
     page.write("script", "")
     page.press("Load")
-    page.until("what was just written is loaded", lambda: page.find("script").get_attribute("value") == "send 9 load 7 b7000000341200009500000000000000\n")
+    page.until("what was just written is loaded",
+               lambda: page.find("script").get_attribute("value") == "send 9 load 7 b7000000341200009500000000000000\n")
     page.write("script", "pool 1\npool 2\npool 3\n")
     page.key(page.keys.END)
     page.until("a key goes through what was just written", lambda: page.shown("where") == "event 0 of 0, after line 3")
@@ -406,8 +418,10 @@ def newcomer(page, ocp):
                "return area.getBoundingClientRect().top + 4 + 18 * area.value.split('\\n').length - area.scrollTop <= document.querySelector('footer').getBoundingClientRect().top"))
     page.script("document.getElementById('help').open = false; scrollTo(0, 1e6)")
     page.key("f")
-    page.until("a message is seen from the end of the page", lambda: page.shown("message") == "There is no fault after this event." and page.script(
-        "const box = document.getElementById('message').getBoundingClientRect(); return box.top >= 0 && box.bottom < innerHeight && scrollY > 100"))
+    page.until("a message is seen from the end of the page",
+               lambda: page.shown("message") == "There is no fault after this event." and page.script(
+                   "const box = document.getElementById('message').getBoundingClientRect();"
+                   " return box.top >= 0 && box.bottom < innerHeight && scrollY > 100"))
     page.press("New")
     page.write("apid", "292\t")
     page.until("the pass is run anew", lambda: "1924c000" in page.shown("rows"))
@@ -416,7 +430,8 @@ def newcomer(page, ocp):
     page.write("apid", "291\t")
     page.until("the usual options", lambda: "1923c000" in page.shown("rows"))
     page.press("Close")
-    given = [line.split(" | ") for line in (Path(__file__).resolve().parents[2] / "docs/CARD.md").read_text().splitlines() if " = word r1" in line or "next_param" in line or "step_end" in line]
+    given = [line.split(" | ") for line in (Path(__file__).resolve().parents[2] / "docs/CARD.md").read_text().splitlines()
+             if " = word r1" in line or "next_param" in line or "step_end" in line]
     words = " ".join(page.shown("forms").split())
     calls = [f"call {number.strip('| ')} {name.replace(' (profile 2)', '')} {gives.strip('| ')}" for number, name, gives in given]
     page.check(f"page: the calls {calls}", len(calls) == 6 and all(call in words for call in calls))
@@ -475,7 +490,8 @@ def page(address, ocp, check, pictures):
         with tempfile.TemporaryDirectory() as folder:
             files(shown, ocp, Path(folder))
         big(shown, ocp)
-        severe = [line["message"] for line in driver.get_log("browser") if not any(word in line["message"] for word in ("status of 4", "DISCONNECTED")) and line["level"] == "SEVERE"]
+        severe = [line["message"] for line in driver.get_log("browser")
+                  if not any(word in line["message"] for word in ("status of 4", "DISCONNECTED")) and line["level"] == "SEVERE"]
         check(f"page: {severe}", not severe)
     finally:
         driver.quit()

@@ -32,7 +32,8 @@ def numbers(page):
 
 def shield(page, shielded):
     """The page says if a build of a text in C may read more than the text."""
-    page.check("page: its words on a shield", page.script("return document.getElementById('unshielded').checkVisibility()") == (shielded is False))
+    page.check("page: its words on a shield",
+               page.script("return document.getElementById('unshielded').checkVisibility()") == (shielded is False))
 
 
 def profiles(page):
@@ -40,13 +41,16 @@ def profiles(page):
     page.driver.refresh()
     page.write("script", "journal\nsend 9 activate 7 10\n")
     page.until("the script", lambda: "tm 1 4" in page.shown("rows"))
-    page.check("page: nothing is said before a change", not page.script("return document.getElementById('other-profile').checkVisibility()"))
+    page.check("page: nothing is said before a change",
+               not page.script("return document.getElementById('other-profile').checkVisibility()"))
     page.find("profile").send_keys("2")
-    page.until("what profile 2 reads", lambda: page.shown("other-profile") == "Profile 2: activate 7 10 gives a budget of 10 instructions. Under "
+    page.until("what profile 2 reads",
+               lambda: page.shown("other-profile") == "Profile 2: activate 7 10 gives a budget of 10 instructions. Under "
                "profile 1 it gave the argument 10, in hexadecimal. The script activates in line 2.")
     time.sleep(1.5)  # the keys of one word are typed within a second
     page.find("profile").send_keys("1")
-    page.until("what profile 1 reads", lambda: page.shown("other-profile").startswith("Profile 1: activate 7 10 gives the argument 10, in hexadecimal."))
+    page.until("what profile 1 reads",
+               lambda: page.shown("other-profile").startswith("Profile 1: activate 7 10 gives the argument 10, in hexadecimal."))
 
 
 def words(page):

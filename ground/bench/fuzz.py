@@ -107,7 +107,8 @@ def requests(check, address, ocp, count=REQUESTS):
             continue
         status, body = found
         seen.add(status)
-        check(f"request {number} is answered with {status}: {octets[:300]} {body[:100]}", status in ANSWERS or not has_good_head and 400 <= status < 600 and status != 500)
+        check(f"request {number} is answered with {status}: {octets[:300]} {body[:100]}",
+              status in ANSWERS or not has_good_head and 400 <= status < 600 and status != 500)
         if has_good_head and status != 404 or status == 200:
             said = json.loads(body)
             check(f"request {number} has its answer", isinstance(said, dict) and (status == 200) == ("refused" not in said))

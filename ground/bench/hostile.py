@@ -117,7 +117,8 @@ def servers_end(check, script):
                     # Another build may not begin before the run has ended, so that it is asked of a server of its own.
                     other, its = client.serve(folder)
                     answers.append(pool.submit(client.ask, its, "text", text=SLOW, language="c"))
-                    check("a slow build has begun", waited(lambda: any("/clang" in _command(each) for each in running(f"{folder}/ocp-bench-"))))
+                    check("a slow build has begun",
+                          waited(lambda: any("/clang" in _command(each) for each in running(f"{folder}/ocp-bench-"))))
                     other.send_signal(number)
                     other.wait(15)
                     check(f"no build outlives its server, {number.name}", waited(lambda: not running(f"{folder}/ocp-bench-"), 4))
@@ -230,7 +231,8 @@ def strangers(check, address):
         pass
     check("a request that drips has an end", 0.4 < time.monotonic() - began < 2)
     dripping.set()
-    ours.close(), theirs.close()
+    ours.close()
+    theirs.close()
 
 
 def raw(address, *lines, body=b"{}"):

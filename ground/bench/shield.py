@@ -80,7 +80,8 @@ def by_unshare(room, programs):
     """The words of unshare; the folder `root` beside the room becomes the root."""
     paths = shown(room, programs)
     return ["env", f"PATH={PATH}", "unshare", "--user", "--map-root-user", "--mount", "--net", "--ipc", "--pid", "--fork",
-            "--kill-child", "/bin/sh", "-c", BY_UNSHARE, "sh", os.fspath(room.parent / "root"), os.fspath(room), str(len(paths)), *paths, "env",
+            "--kill-child", "/bin/sh", "-c", BY_UNSHARE, "sh", os.fspath(room.parent / "root"), os.fspath(room), str(len(paths)), *paths,
+            "env",
             f"PATH={os.environ.get('PATH', PATH)}"]
 
 

@@ -48,7 +48,8 @@ def row_of(opcode, dst, src, offset, imm, after):
     elif opcode in (0x84, 0x87):
         return Instruction("alu", f"neg{width} r{dst}", {"dst"}, name="neg", width=width, by_register=by_register)
     elif opcode in ORDERS:
-        return Instruction("order", f"{ORDERS[opcode]} r{dst}, {imm}", {"dst", "imm"}, name=ORDERS[opcode], is_reserved=imm not in (16, 32, 64))
+        return Instruction("order", f"{ORDERS[opcode]} r{dst}, {imm}", {"dst", "imm"}, name=ORDERS[opcode],
+                           is_reserved=imm not in (16, 32, 64))
     elif opcode == 0x05:
         return Instruction("ja", f"ja {offset:+}", {"offset"}, reach=offset)
     elif opcode == 0x06:
@@ -67,7 +68,8 @@ def row_of(opcode, dst, src, offset, imm, after):
         return Instruction("wide", f"lddw r{dst}, 0x{value:016x}", {"dst", "imm"}, slots=2, value=value, is_reserved=any(after[:4]))
     elif opcode in LOADS or opcode in SIGNED_LOADS:
         name, count = LOADS[opcode] if opcode in LOADS else SIGNED_LOADS[opcode]
-        return Instruction("load", f"{name} r{dst}, [r{src}{offset:+}]", {"dst", "src", "offset"}, count=count, is_signed=opcode in SIGNED_LOADS)
+        return Instruction("load", f"{name} r{dst}, [r{src}{offset:+}]", {"dst", "src", "offset"}, count=count,
+                           is_signed=opcode in SIGNED_LOADS)
     elif opcode in STORES:
         name, count = STORES[opcode]
         return Instruction("store", f"{name} [r{dst}{offset:+}], {imm}", {"dst", "imm", "offset"}, count=count, of_register=False)

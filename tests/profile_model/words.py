@@ -2,7 +2,8 @@
 import re
 
 from profile_model.instructions import MASK
-from profile_model.requests import ABORT, ACTIVATE, COMMUNICATE, LOAD, MAX_ARGUMENTS, MAX_WORDS, REPORT_STATUS, RESUME, STOP, SUSPEND, UNLOAD
+from profile_model.requests import (ABORT, ACTIVATE, COMMUNICATE, LOAD, MAX_ARGUMENTS, MAX_WORDS, REPORT_STATUS, RESUME, STOP, SUSPEND,
+                                    UNLOAD)
 
 
 class Syntax(Exception):
