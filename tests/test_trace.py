@@ -33,12 +33,11 @@ def section_of(part, page):
 
 def has_test(name):
     """Whether there is this group of tests or this script, or whether a crate has this file of tests or this folder of cases."""
-    if name.startswith("./ocp test "):
-        group = name.removeprefix("./ocp test ")
-        return any((ROOT / path).is_file() for path in (f"tests/test_{group}.py", f"tests/{group}"))
+    if name.startswith("tests/"):
+        return any((ROOT / path).is_file() for path in (name, name.replace("test_", "").removesuffix(".py")))
     crate, _, rest = name.partition("/")
-    return any(path.is_file() for path in (ROOT / f"crates/{crate}/src/{rest}.rt",
-                                           ROOT / name)) or any((ROOT / f"crates/{crate}/cases/{rest}").glob("*.stdout"))
+    folder = ROOT / "crates" / crate
+    return any(path.is_file() for path in (folder / f"src/{rest}.rt", ROOT / name)) or any((folder / "cases" / rest).glob("*.stdout"))
 
 
 class Profile(Case):
