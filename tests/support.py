@@ -73,3 +73,19 @@ class Case(unittest.TestCase):
             if "skipped" in line and ", 0 skipped" not in line:
                 print(f"skipped: {line}")
         return str(done.stdout)
+
+    def writes(self, wanted: bytes, words: Sequence[Word], given: bytes) -> None:
+        """Runs a program that has to write these octets. No memory is refused, so it may not answer Memory."""
+        done = run(words, given)
+        self.assertEqual(done.stdout.decode("latin-1"), wanted.decode("latin-1"), done.stderr.decode("latin-1"))
+        self.assertNotRegex(wanted.decode("latin-1"), r"\bMemory\b")
+
+    def follows(self, folder: Path, program: Path = PROGRAM) -> None:
+        """Runs the cases of a folder: NAME is what the program reads, NAME.args has its words, one a line, NAME.stdout what it writes."""
+        cases = [path.with_name(path.name[:-len(".stdout")]) for path in sorted(folder.glob("*.stdout"))]
+        self.assertTrue(cases, f"{folder} has no cases")
+        for case in cases:
+            words = Path(f"{case}.args")
+            with self.subTest(case.name):
+                self.writes(Path(f"{case}.stdout").read_bytes(), [program, *(words.read_text().splitlines() if words.exists() else [])],
+                            case.read_bytes())
