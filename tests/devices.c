@@ -4,47 +4,25 @@
 #include <stdlib.h>
 #include <unistd.h>
 
-/* A standard input that gives at most PIECE octets at a call and a standard output that takes no more, and of which the call of
-   number READ, or WRITE, fails: only that one, so a program that tries it again succeeds. */
+/* A standard input that gives one octet at a call and a standard output that takes one, and of which the call of number READ, or
+   WRITE, fails: only that one, so a program that tries it again succeeds. */
 
-typedef struct {
-    long calls, failing;
-} device;
-
-static device input, output;
-static size_t piece;
-static ssize_t (*real_read)(int, void *, size_t);
-static ssize_t (*real_write)(int, const void *, size_t);
-
-static long number_of(const char *name) {
-    const char *text = getenv(name);
-    return text ? atol(text) : 0;
-}
-
-__attribute__((constructor)) static void begin(void) {
-    real_read = dlsym(RTLD_NEXT, "read");
-    real_write = dlsym(RTLD_NEXT, "write");
-    input.failing = number_of("READ");
-    output.failing = number_of("WRITE");
-    piece = (size_t)number_of("PIECE");
-}
-
-static int fails(device *one) {
-    if (++one->calls != one->failing) return 0;
+static int fails(const char *device, long call) {
+    const char *number = getenv(device);
     errno = EIO;
-    return 1;
-}
-
-static size_t limited(size_t size) {
-    return size < piece ? size : piece;
+    return number && atol(number) == call;
 }
 
 ssize_t read(int file, void *octets, size_t size) {
-    if (file != STDIN_FILENO) return real_read(file, octets, size);
-    return fails(&input) ? -1 : real_read(file, octets, limited(size));
+    static long calls;
+    ssize_t (*real)(int, void *, size_t) = dlsym(RTLD_NEXT, "read");
+    if (file != STDIN_FILENO) return real(file, octets, size);
+    return fails("READ", ++calls) ? -1 : real(file, octets, size > 0);
 }
 
 ssize_t write(int file, const void *octets, size_t size) {
-    if (file != STDOUT_FILENO) return real_write(file, octets, size);
-    return fails(&output) ? -1 : real_write(file, octets, limited(size));
+    static long calls;
+    ssize_t (*real)(int, const void *, size_t) = dlsym(RTLD_NEXT, "write");
+    if (file != STDOUT_FILENO) return real(file, octets, size);
+    return fails("WRITE", ++calls) ? -1 : real(file, octets, size > 0);
 }

@@ -7,6 +7,4 @@ def octets_of(text):
     if re.search(r"\d \* ", text):
         pieces = [re.fullmatch(r"(?:(\d+) \* )?(.*)", it, re.DOTALL).groups() for it in text.split(" + ")]
         return b"".join(int(count or 1) * octets_of(it) for count, it in pieces)
-    return "".join(
-        chr(it) for it in text.encode("latin-1", "backslashreplace").decode("unicode_escape").replace("\ufeff", "\xef\xbb\xbf").encode("latin-1")
-    ).encode("latin-1")
+    return text.encode("latin-1", "backslashreplace").decode("unicode_escape").replace("\ufeff", "\xef\xbb\xbf").encode("latin-1")

@@ -1,0 +1,44 @@
+"""What the built program says of each mistake of the table tests/mistakes on standard error.
+
+A row is: command and profile | the line that ends the output | the input | words of the hint | the word at its mark. The status is 1;
+on standard error are a sentence with these words, the line as it was read, and a mark under that word. The head of the table says
+how inputs and marks are written."""
+from mistake_inputs import octets_of
+from support import ROOT, Case, ocp
+
+TABLE = (ROOT / "tests/mistakes").read_text(encoding="utf-8").splitlines()
+ROWS = [row for row in TABLE if row and not row.startswith("//")]
+
+
+def is_word_at(mark, rest):
+    """Whether the text from the mark on begins with the word of the row."""
+    if mark == "its end":
+        return not rest
+    if mark == "a blank":
+        return rest.startswith(" ")
+    after = rest[len(mark):len(mark) + 1]
+    return rest.startswith(mark) and not (mark[-1].isalnum() and after.isalnum())
+
+
+class Hints(Case):
+    seconds = 2
+
+    def is_hint(self, said, given, words, mark):
+        self.assertTrue(said and words in said[0], said)
+        if mark == "no line":
+            return self.assertEqual(len(said), 1, said)
+        self.assertEqual(len(said), 3, said)
+        self.assertEqual(said[2].strip(), "^", said)
+        self.assertTrue(is_word_at(mark, said[1][said[2].index("^"):]), f"the mark is not at {mark}: {said}")
+        self.assertIn(said[1][4:], "".join(chr(it) if 32 <= it < 127 else "?" for it in given))
+
+    def test_mistakes(self):
+        for row in ROWS:
+            with self.subTest(row):
+                job, answer, text, words, mark = row.split(" | ")
+                command, profile = job.split()
+                given = octets_of(text)
+                done = ocp([command, *([] if command == "list" else ["--profile", profile])], given)
+                before = "journal 0\n" if given.startswith(b"journal\n") else ""
+                self.assertEqual((done.returncode, done.stdout.decode()), (1, f"{before}{answer}\n"))
+                self.is_hint(done.stderr.decode("ascii", "replace").splitlines(), given, words, mark)
