@@ -4,9 +4,11 @@
  *
  * Time goes by in cycles. In each one every running procedure does a round in its turn: instructions up to the end of a step,
  * or SLICE of them. Every CYCLES_OF_DRAIN cycles the completions that wait are reported. The time in reports is the number of
- * the cycle. A cycle takes MILLISECONDS; with 0, the default, one follows each packet, and the same packets give the same
- * reports. In each cycle, and if the journal is full, its entries are written to the file JOURNAL, if one is named, for the
- * tools `journal` and `replay`; then they are released. So the program flies on in constant memory.
+ * the cycle. A cycle is due every MILLISECONDS; with 0, the default, one follows each packet, and the same packets give the same
+ * reports. Input is read before each cycle. If a cycle takes longer, those that were due meanwhile are skipped and counted.
+ *
+ * In each cycle, and if the journal is full, its entries are written to the file JOURNAL, if one is named, for the tools
+ * `journal` and `replay`; then they are released. So the program flies on in constant memory.
  *
  * A packet is as long as it says. If its error control is wrong, the next plausible header within it whose packet has the
  * right error control begins the next packet, and the octets before it are passed over; if there is none, the engine is given
@@ -14,6 +16,7 @@
  *
  * Status: 0 the input has ended, 2 wrong words, 3 no engine, no journal, or no output; one line says which. */
 #define _POSIX_C_SOURCE 200809L
+#include "cycles.h"
 #include "ocp_engine.h"
 #include "ocp_journal.h"
 #include "ocp_octets.h"
@@ -47,6 +50,8 @@ enum {
 static const struct parameters parameters = {.profile = 1, .apid = APID, .pool_words = 16, .entries = 4096, .octets = 262144};
 static struct ocp_engine engine = OCP_CLOSED;
 static uint32_t cycle;
+static uint32_t drained; /* the cycle of the last drain */
+static uint64_t skipped; /* cycles that were due while another one ran */
 static uint32_t broken; /* packets that were discarded */
 static uint32_t passed; /* octets that were passed over */
 
@@ -213,13 +218,17 @@ static void drain(void)
         send_reports(written); /* else nothing waits */
 }
 
-static void run_cycle(void)
+/* Runs the last of some cycles that are due. */
+static void run_cycle(uint64_t count)
 {
-    cycle++;
+    cycle += (uint32_t)count;
+    skipped += count - 1;
     hand_down();
     give_rounds();
-    if (cycle % CYCLES_OF_DRAIN == 0)
+    if (cycle - drained >= CYCLES_OF_DRAIN) {
+        drained = cycle;
         drain();
+    }
 }
 
 /* ---- the two ways of time */
@@ -230,7 +239,7 @@ static void take_packets(bool quiet, bool by_packets)
     for (size_t length; (length = next_packet(quiet)) != 0; drop_front(length)) {
         take(length);
         if (by_packets)
-            run_cycle();
+            run_cycle(1);
     }
 }
 
@@ -259,17 +268,17 @@ static void cycles_by_packets(void)
     }
 }
 
-static void cycles_by_clock(int64_t period)
+/* Input is read once before each cycle, also before one that is late. */
+static void cycles_by_clock(uint64_t period)
 {
-    int64_t due = milliseconds() + period;
-    for (bool open = true; open;) {
-        int64_t wait = due - milliseconds();
-        if (wait > 0) {
-            open = attend_input(wait, false);
-        } else {
-            run_cycle();
-            due += period;
-        }
+    struct cycles cycles = {period, (uint64_t)milliseconds() + period};
+    for (;;) {
+        int64_t wait = (int64_t)cycles.due - milliseconds();
+        if (!attend_input(wait > 0 ? wait : 0, false))
+            return;
+        uint64_t count = cycles_due(&cycles, (uint64_t)milliseconds());
+        if (count > 0)
+            run_cycle(count);
     }
 }
 
@@ -287,7 +296,7 @@ int main(int words, char **word)
     if (period == 0)
         cycles_by_packets();
     else
-        cycles_by_clock((int64_t)period);
+        cycles_by_clock(period);
     if (held > 0) { /* the input ends within a packet */
         broken++;
         fprintf(stderr, "flight: cycle %lu: the input ends within a packet\n", (unsigned long)cycle);
@@ -296,6 +305,8 @@ int main(int words, char **word)
         end("the journal can't be written");
     if (passed > 0)
         fprintf(stderr, "flight: %lu octets passed over\n", (unsigned long)passed);
+    if (skipped > 0)
+        fprintf(stderr, "flight: %llu cycles were late and are skipped\n", (unsigned long long)skipped);
     fprintf(stderr, "flight: %lu cycles, %lu packets discarded\n", (unsigned long)cycle, (unsigned long)broken);
     return ocp_close(&engine) == OCP_DONE ? 0 : FAILED;
 }

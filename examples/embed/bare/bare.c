@@ -2,9 +2,11 @@
  *
  * Time goes by in cycles of CYCLE milliseconds; with 0, one follows each packet, and the same packets give the same reports.
  * In each one every running procedure does a slice of SLICE instructions in its turn, and the completions that wait are
- * reported. The time in reports is the number of the cycle. The journal's entries are released after each cycle: a program
+ * reported. The time in reports is the number of the cycle. The UART is read before each cycle; cycles that were due while
+ * another one ran are skipped and counted. The journal's entries are released after each cycle: a program
  * with room for them copies them out first. A packet whose octets stop coming is dropped after SILENCE milliseconds. */
 #include "board.h"
+#include "cycles.h"
 #include "ocp_engine.h"
 #include "turns.h"
 
@@ -54,10 +56,11 @@ static void release_entries(void)
         ocp_release(&engine, JOURNAL_ENTRIES - entries);
 }
 
-static void run_cycle(void)
+/* Runs the last of some cycles that are due. */
+static void run_cycle(uint64_t count)
 {
     size_t written;
-    cycle++;
+    cycle += (uint32_t)count;
     give_slices();
     if (ocp_drain(&engine, cycle, reports, sizeof reports, &written) == OCP_DONE)
         uart_send(reports, written);
@@ -71,7 +74,7 @@ static void take(size_t length)
     if (ocp_request(&engine, cycle, input, length, reports, sizeof reports, &written) == OCP_DONE)
         uart_send(reports, written);
     if (CYCLE == 0)
-        run_cycle();
+        run_cycle(1);
 }
 
 /* How long the packet is that the input begins with, or 0 while that is not known. */
@@ -99,11 +102,11 @@ int main(void)
     uart_begin();
     if (ocp_open(&engine, PROFILE, APID, POOL_WORDS, JOURNAL_ENTRIES, JOURNAL_OCTETS) != OCP_DONE)
         switch_off();
-    for (uint64_t due = milliseconds() + CYCLE;;) {
+    struct cycles cycles = {CYCLE, milliseconds() + CYCLE};
+    for (;;) {
         read_input();
-        if (CYCLE > 0 && milliseconds() >= due) {
-            run_cycle();
-            due += CYCLE;
-        }
+        uint64_t count = CYCLE > 0 ? cycles_due(&cycles, milliseconds()) : 0;
+        if (count > 0)
+            run_cycle(count);
     }
 }
