@@ -128,7 +128,7 @@ class Build(Case):
         entry = "word entry(const octet *a, word n)\n{{\n    return {};\n}}\n"
         text = self.file("verdict.c", INCLUDE + entry.format("a[n]"))
         plain, answer = build(text), build("-c", text)
-        self.assertEqual((answer.returncode, answer.stdout), (0, plain.stdout))
+        self.assertEqual((answer.returncode, answer.stdout), (1, plain.stdout))
         self.assertRegex(answer.stderr, r"(?m)^verdict\.c:4: slot \d+   ldxb r0, \[r\d\+0\]   may be AccessOutside: "
                                         r"r\d is 0x20000000 to 0x20000100$")
         self.file("verdict.c", INCLUDE + entry.format("n < 256 ? a[n] : 0"))
