@@ -19,18 +19,23 @@ static inline uint64_t number_at(const uint8_t *octets, int length)
     return number;
 }
 
-/* The error control of packets: x^16 + x^12 + x^5 + 1, preset all ones, four bits at a time. */
-static inline uint16_t error_control(const uint8_t *octets, size_t length)
+/* The remainder of octets that follow others with a remainder of their own: x^16 + x^12 + x^5 + 1, four bits at a time. */
+static inline uint16_t remainder_after(uint16_t rest, const uint8_t *octets, size_t length)
 {
     /* the remainder of each four bits, followed by 16 zeros */
     static const uint16_t remainders[16] = {0x0000, 0x1021, 0x2042, 0x3063, 0x4084, 0x50a5, 0x60c6, 0x70e7,
                                             0x8108, 0x9129, 0xa14a, 0xb16b, 0xc18c, 0xd1ad, 0xe1ce, 0xf1ef};
-    uint16_t rest = 0xffff;
     for (size_t at = 0; at < length; at++) {
         rest = (uint16_t)(rest << 4 ^ remainders[rest >> 12 ^ octets[at] >> 4]);
         rest = (uint16_t)(rest << 4 ^ remainders[rest >> 12 ^ (octets[at] & 15)]);
     }
     return rest;
+}
+
+/* The error control of packets: their remainder, preset all ones. */
+static inline uint16_t error_control(const uint8_t *octets, size_t length)
+{
+    return remainder_after(0xffff, octets, length);
 }
 
 #endif

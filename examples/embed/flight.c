@@ -10,16 +10,14 @@
  * In each cycle, and if the journal is full, its entries are written to the file JOURNAL, if one is named, for the tools
  * `journal` and `replay`; then they are released. So the program flies on in constant memory.
  *
- * A packet is as long as it says. If its error control is wrong, the next plausible header within it whose packet has the
- * right error control begins the next packet, and the octets before it are passed over; if there is none, the engine is given
- * the packet and answers it. After a second without an octet an unfinished packet holds no whole one back.
+ * `parting.h` finds the packets in the input. After a second without an octet an unfinished one holds no whole one back.
  *
  * Status: 0 the input has ended, 2 wrong words, 3 no engine, no journal, or no output; one line says which. */
 #define _POSIX_C_SOURCE 200809L
 #include "cycles.h"
 #include "ocp_engine.h"
 #include "ocp_journal.h"
-#include "ocp_octets.h"
+#include "parting.h"
 #include "turns.h"
 #include "words.h"
 
@@ -38,10 +36,6 @@
 enum {
     APID = 291,
     CYCLES_OF_DRAIN = 1, /* from drain to drain */
-    HEADER = 6,          /* octets of a primary header */
-    LONGEST = HEADER + 65536,
-    SHORTEST_OF_PROFILE = HEADER + 5 + 2,                /* a telecommand without data */
-    LONGEST_OF_PROFILE = HEADER + 5 + 4 + 2048 * 8 + 2, /* a load of 2,048 slots */
     QUIET = 1000,           /* milliseconds */
     LONGEST_PERIOD = 60000, /* milliseconds */
     FAILED = 3
@@ -53,12 +47,10 @@ static uint32_t cycle;
 static uint32_t drained; /* the cycle of the last drain */
 static uint64_t skipped; /* cycles that were due while another one ran */
 static uint32_t broken; /* packets that were discarded */
-static uint32_t passed; /* octets that were passed over */
 
-static uint8_t input[LONGEST + LONGEST_OF_PROFILE];
-static size_t held;       /* octets of the input that are not taken yet */
-static size_t looked = 1; /* no packet begins between the first of them and this one */
-static int64_t heard;     /* when octets came last, in milliseconds */
+static struct parting input = {.apid = APID};
+static uint64_t told; /* octets that were passed over and told of */
+static int64_t heard; /* when octets came last, in milliseconds */
 
 static uint8_t reports[OCP_DRAIN_REPORTS > OCP_REQUEST_REPORTS ? OCP_DRAIN_REPORTS : OCP_REQUEST_REPORTS];
 
@@ -98,82 +90,22 @@ static int64_t milliseconds(void)
     return (int64_t)now.tv_sec * 1000 + now.tv_nsec / 1000000;
 }
 
-static size_t length_at(size_t at)
+/* Tells how many octets were passed over since it was told last. */
+static void tell_passed(void)
 {
-    return HEADER + 1 + ((size_t)input[at + 4] << 8 | input[at + 5]);
-}
-
-/* Whether the octets from a place on, as far as they are held, are a plausible header of a telecommand. */
-static bool is_plausible(size_t at)
-{
-    size_t here = held - at;
-    bool is_ours = input[at] == (0x18 | APID >> 8) && (here < 2 || input[at + 1] == (APID & 0xff));
-    bool is_alone = here < 3 || input[at + 2] >> 6 == 3;
-    bool is_of_profile = here < HEADER || (length_at(at) >= SHORTEST_OF_PROFILE && length_at(at) <= LONGEST_OF_PROFILE);
-    return is_ours && is_alone && is_of_profile;
-}
-
-static bool is_whole(size_t at)
-{
-    return held - at >= HEADER && length_at(at) <= held - at;
-}
-
-/* Where the next packet begins after the first octet and before the limit, or 0. One that is not whole yet may still turn out
- * to be none; after a quiet time it does not count. */
-static size_t next_start(size_t limit, bool quiet)
-{
-    for (size_t at = looked; at < limit; at++) {
-        bool here = is_whole(at);
-        if (is_plausible(at) && (here ? error_control(input + at, length_at(at)) == 0 : !quiet)) {
-            looked = here || quiet ? looked : at;
-            return at;
-        }
-    }
-    looked = quiet ? looked : limit;
-    return 0;
-}
-
-static void drop_front(size_t length)
-{
-    held -= length;
-    memmove(input, input + length, held);
-    looked = 1;
-}
-
-static void pass_over(size_t length)
-{
-    passed += (uint32_t)length;
-    fprintf(stderr, "flight: cycle %lu: %lu octets are passed over\n", (unsigned long)cycle, (unsigned long)length);
-    drop_front(length);
-}
-
-/* How long the packet is that the input begins with, after octets that begin none are passed over; 0 if more have to come. */
-static size_t next_packet(bool quiet)
-{
-    while (held >= HEADER) {
-        size_t length = length_at(0);
-        bool here = length <= held, is_header = input[0] >> 5 == 0;
-        if (here && is_header && error_control(input, length) == 0)
-            return length;
-        if (!here && is_header && !quiet)
-            return 0;
-        size_t start = next_start(here ? length : held, quiet);
-        if (start == 0)
-            return here ? length : 0;
-        if (!is_whole(start))
-            return 0;
-        pass_over(start);
-    }
-    return 0;
+    if (input.passed > told)
+        fprintf(stderr, "flight: cycle %lu: %llu octets are passed over\n", (unsigned long)cycle, (unsigned long long)(input.passed - told));
+    told = input.passed;
 }
 
 static void take(size_t length)
 {
     size_t written = 0;
-    uint32_t status = ocp_request(&engine, cycle, input, length, reports, sizeof reports, &written);
+    const uint8_t *packet = input.octets + input.first;
+    uint32_t status = ocp_request(&engine, cycle, packet, length, reports, sizeof reports, &written);
     if (status == OCP_JOURNAL_FULL) {
         hand_down();
-        status = ocp_request(&engine, cycle, input, length, reports, sizeof reports, &written);
+        status = ocp_request(&engine, cycle, packet, length, reports, sizeof reports, &written);
     }
     if (status == OCP_DONE) {
         send_reports(written);
@@ -186,10 +118,11 @@ static void take(size_t length)
 /* Reads what is there; gives whether the input goes on. */
 static bool read_input(void)
 {
-    ssize_t got = read(STDIN_FILENO, input + held, sizeof input - held);
+    size_t room = room_for_octets(&input);
+    ssize_t got = read(STDIN_FILENO, input.octets + input.end, room);
     if (got < 0 && errno != EINTR)
         end("the input can't be read");
-    held += got > 0 ? (size_t)got : 0;
+    add_octets(&input, got > 0 ? (size_t)got : 0);
     heard = milliseconds();
     return got != 0;
 }
@@ -236,11 +169,14 @@ static void run_cycle(uint64_t count)
 /* Takes the packets that are here, in the first way of time with a cycle after each. */
 static void take_packets(bool quiet, bool by_packets)
 {
-    for (size_t length; (length = next_packet(quiet)) != 0; drop_front(length)) {
+    for (size_t length; (length = next_packet(&input, quiet)) != 0; drop_octets(&input, length)) {
+        tell_passed();
         take(length);
         if (by_packets)
             run_cycle(1);
     }
+    if (quiet)
+        tell_passed();
 }
 
 /* Waits for octets, with a time below 0 as long as it takes, and takes the packets that have come, or that a quiet second
@@ -248,14 +184,14 @@ static void take_packets(bool quiet, bool by_packets)
 static bool attend_input(int64_t wait, bool by_packets)
 {
     struct pollfd ready = {.fd = STDIN_FILENO, .events = POLLIN};
-    int64_t quiet = held > 0 ? heard + QUIET - milliseconds() : -1;
-    bool open = true;
-    if (held > 0 && (wait < 0 || quiet < wait))
+    bool waits = held_octets(&input) > 0 || input.passed > told, open = true;
+    int64_t quiet = waits ? heard + QUIET - milliseconds() : -1;
+    if (waits && (wait < 0 || quiet < wait))
         wait = quiet > 0 ? quiet : 0;
     if (poll(&ready, 1, (int)wait) > 0) {
         open = read_input();
         take_packets(!open, by_packets);
-    } else if (held > 0 && milliseconds() >= heard + QUIET) {
+    } else if (waits && milliseconds() >= heard + QUIET) {
         heard = milliseconds();
         take_packets(true, by_packets);
     }
@@ -297,14 +233,14 @@ int main(int words, char **word)
         cycles_by_packets();
     else
         cycles_by_clock(period);
-    if (held > 0) { /* the input ends within a packet */
+    if (held_octets(&input) > 0) { /* the input ends within a packet */
         broken++;
         fprintf(stderr, "flight: cycle %lu: the input ends within a packet\n", (unsigned long)cycle);
     }
     if (!end_journal(&engine))
         end("the journal can't be written");
-    if (passed > 0)
-        fprintf(stderr, "flight: %lu octets passed over\n", (unsigned long)passed);
+    if (input.passed > 0)
+        fprintf(stderr, "flight: %llu octets passed over\n", (unsigned long long)input.passed);
     if (skipped > 0)
         fprintf(stderr, "flight: %llu cycles were late and are skipped\n", (unsigned long long)skipped);
     fprintf(stderr, "flight: %lu cycles, %lu packets discarded\n", (unsigned long)cycle, (unsigned long)broken);
