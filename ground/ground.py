@@ -51,6 +51,8 @@ COUNTS = 16384
 QUIET = 0.5
 # reports that `ask` keeps for its caller
 KEPT = 10000
+# characters of a file with an image: twice the digits of the longest load, for ends of lines
+LONGEST_FILE = 4 * 65536
 # seconds that an engine has to take a telecommand, and to end when its input has ended
 PATIENCE = 3.0
 LONGEST_WAIT = 86400
@@ -444,9 +446,11 @@ class Pipes:
 
 
 class Socket:
-    """An engine at a port of the loopback, "tcp" or "udp"; `own` is the UDP port that its reports come to."""
+    """An engine at a port of the loopback, "tcp" or "udp"; `own` is the UDP port that its reports come to. A datagram without
+    octets is none; only TCP has an end."""
 
     def __init__(self, kind, port, own=0):
+        self.kind = kind
         self.socket = socket.socket(socket.AF_INET, socket.SOCK_STREAM if kind == "tcp" else socket.SOCK_DGRAM)
         try:
             if kind == "udp":
@@ -468,9 +472,10 @@ class Socket:
     def receive(self, seconds):
         try:
             ready = select.select([self.socket], [], [], seconds)[0]
-            return self.socket.recv(BLOCK) if ready else None
+            octets = self.socket.recv(BLOCK) if ready else None
         except OSError:
             raise LinkFault("the engine has closed the link") from None
+        return None if self.kind == "udp" and not octets else octets
 
     def close(self):
         self.socket.close()
@@ -511,11 +516,16 @@ FORMS = {"load": "ID FILE", "unload": "ID", "activate": "ID [HEX] [BUDGET]", "st
 def image_of(file):
     """The octets of a file of hexadecimal digits, as `ocp asm` and tools/c_build write it."""
     try:
-        return bytes.fromhex(Path(file).read_text())
+        with open(file, encoding="ascii") as text:
+            digits = text.read(LONGEST_FILE + 1)
+        octets = b"" if len(digits) > LONGEST_FILE else bytes.fromhex(digits)
     except OSError as fault:
         raise ValueError(f"{file}: {fault.strerror}") from None
     except ValueError:
         raise ValueError(f"{file}: not hexadecimal digits") from None
+    if len(digits) > LONGEST_FILE:
+        raise ValueError(f"{file}: over {LONGEST_FILE} characters, which no load takes")
+    return octets
 
 
 def warnings_of(file, image, profile, program):
