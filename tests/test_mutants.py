@@ -251,7 +251,8 @@ class OfRecords(Repository):
         self.assertIn("two mutants", self.faults()["by-four"])
 
     def test_edits_that_change_nothing_or_name_no_file(self):
-        for text, why in (("file: src/lib.rt\n", "changes nothing"), ("file: src/gone.rt\nold: a\nnew: b\n", "no file"), ("old: a\nnew: b\n", "no file"), ("file: ../low/src/lib.rt\nold: n\nnew: m\n", "no file")):
+        for text, why in (("file: src/lib.rt\n", "changes nothing"), ("file: src/gone.rt\nold: a\nnew: b\n", "no file"),
+                          ("old: a\nnew: b\n", "no file"), ("file: ../low/src/lib.rt\nold: n\nnew: m\n", "no file")):
             self.write("crates/high/edits/by-four.edit", text)
             self.assertIn(why, self.faults()["by-four"])
 
@@ -380,7 +381,8 @@ class OfCommand(Repository):
         self.assertFalse((self.crate / "mutants.record").exists())
 
     def test_not_refused_is_not_recorded(self):
-        for word, verdict, why in (("NONE", "proved", ""), ("BROKEN", "not-tried", "does not compile"), ("MISSING", "not-tried", "names what the edit took away"), ("OTHERS", "not-tried", "no goal of it")):
+        for word, verdict, why in (("NONE", "proved", ""), ("BROKEN", "not-tried", "does not compile"),
+                                   ("MISSING", "not-tried", "names what the edit took away"), ("OTHERS", "not-tried", "no goal of it")):
             with self.subTest(word=word):
                 self.write("crates/high/must-fail/thrice.edit", FILES["crates/high/must-fail/thrice.edit"].replace("REFUSE", word))
                 status, said = self.run_it("--record", "--only", "thrice", "high")
@@ -400,7 +402,8 @@ class OfCommand(Repository):
         self.write("crates/high/must-fail/thrice.edit", FILES["crates/high/must-fail/thrice.edit"].replace("REFUSE", "SLOW"))
         for number, status in ((signal.SIGKILL, -9), (signal.SIGINT, 130), (signal.SIGTERM, 143)):
             with self.subTest(number=number):
-                ran = subprocess.Popen([self.top / ".ci/mutants", "--record"], env=self.words, stdout=subprocess.DEVNULL, stderr=subprocess.DEVNULL, start_new_session=True)
+                ran = subprocess.Popen([self.top / ".ci/mutants", "--record"], env=self.words, stdout=subprocess.DEVNULL,
+                                       stderr=subprocess.DEVNULL, start_new_session=True)
                 time.sleep(1)
                 ran.send_signal(number)
                 self.assertEqual(ran.wait(20), status)
@@ -418,7 +421,8 @@ class OfCommand(Repository):
         self.assertNotIn("Traceback", said)
 
     def test_wrong_words(self):
-        for words, why in ((["nowhere"], "no crate nowhere"), (["--only", "nothing", "high"], "no mutant nothing"), ([], "name crates"), (["--lanes", "0", "high"], "--lanes")):
+        for words, why in ((["nowhere"], "no crate nowhere"), (["--only", "nothing", "high"], "no mutant nothing"), ([], "name crates"),
+                           (["--lanes", "0", "high"], "--lanes")):
             status, said = self.run_it(*words)
             self.assertEqual(status, 2)
             self.assertIn(why, said)

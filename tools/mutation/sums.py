@@ -70,7 +70,8 @@ class Crate:
 
     def proof_of(self, mutant):
         """The files of the proof of the function that a mutant changes. One of a type may be in another file than the type."""
-        return [name for name in self.proofs if any(is_proof(Path(name).parts[1:count], mutant) for count in range(2, len(Path(name).parts)))]
+        return [name for name in self.proofs
+                if any(is_proof(Path(name).parts[1:count], mutant) for count in range(2, len(Path(name).parts)))]
 
 
 def is_proof(parts, mutant):
