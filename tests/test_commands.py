@@ -40,7 +40,6 @@ LIST = (
     ("list", "1,048,576 octets", MOST // 16 * EXIT, 0, MOST // 16 * "exit\n"),
 )
 
-
 # The instructions of a round are counted by hand, up to the step end or the exit.
 NEVER = "faults 1 2 3   never\n"
 NO_BOUND = "round   not bounded, since a fault may come\n"
@@ -118,15 +117,9 @@ REFUSED = (
     ("run --apid \udcff", "invalid UTF-8 was detected in one or more arguments" + OF_OCP),
     ("run file", "unexpected argument 'file' found" + OF_RUN),
 )
-SCRIPT = f"journal\n# a loop\nsend 9 load 7 {IMAGE}send 1 activate 7\nstep 7 9\njournal"
-TRANSCRIPT = """journal 0
-tm 1 1 seq 0 dest 0 data 1923c000
-tm 1 7 seq 1 dest 0 data 1923c000
-tm 1 1 seq 2 dest 0 data 1923c001
-step 7 8 Ended
-journal 10
-"""
-OCTET_BY_OCTET = (("asm", LISTING, IMAGE), ("list", IMAGE, LISTING), ("run", SCRIPT, TRANSCRIPT))
+SCRIPT, TRANSCRIPT = ((ROOT / "crates/ocp" / name).read_text() for name in ("stdin", "stdout"))
+OCTET_BY_OCTET = (("asm", LISTING, IMAGE), ("list", IMAGE, LISTING),
+                  ("run", f"journal\n# three steps\n{SCRIPT}journal", f"journal 0\n{TRANSCRIPT}journal 5\n"))
 ALL_COMMANDS = """
 
 For more information, try '--help'.
@@ -173,9 +166,8 @@ class Commands(Case):
                 self.ends(ocp(words.split()), 2, "", f"error: {sentence}{ALL_COMMANDS}")
 
     def test_help(self):
-        pages = [(words, "ocp") for words in ("--help", "-h", "help")]
-        pages += [(words, word) for word in COMMANDS for words in (f"{word} --help", f"help {word}")]
-        for words, page in pages:
+        of_commands = ((words, word) for word in COMMANDS for words in (f"{word} --help", f"help {word}"))
+        for words, page in (("--help", "ocp"), ("-h", "ocp"), ("help", "ocp"), *of_commands):
             with self.subTest(words):
                 self.ends(ocp(words.split()), 0, (HELP / page).read_text())
 

@@ -206,8 +206,8 @@ def in_process(file, given):
     return status, shown.getvalue(), said.getvalue()
 
 
-def fault_of(number):
-    """What is wrong with a random session, or None. It is a script that the program takes, and shows what the program prints of it."""
+def faults_of(number):
+    """What is wrong with a random session. What it keeps is a script that the program takes, and it shows what the program prints of it."""
     chance = random.Random(number)
     lines = [some_line(chance) for _ in range(chance.randrange(1, 9))]
     has_undo = chance.randrange(4) == 0
@@ -218,20 +218,14 @@ def fault_of(number):
         status, shown, said = in_process(file, b"\n".join([*lines, b""]))
         kept = file.read_bytes().split(b"\n")[:-1] if file.exists() else []
         again = in_process(file, b"") if file.exists() else (None, b"", "")
-    what = f"script {number}: {lines}"
-    if status is not None or again != (None, b"", ""):
-        return f"{what}: ends with {status} {said}, and then {again}"
-    remaining = iter(lines)
-    if not all(line in remaining for line in kept):
-        return f"{what}: keeps lines that were not entered: {kept}"
-    done = ocp(["run"], b"\n".join([*kept, b""]))
-    shown = shown.split(b"\n")[:-1]
+    done, remaining, shown = ocp(["run"], b"\n".join([*kept, b""])), iter(lines), shown.split(b"\n")[:-1]
     accepted = [line for line in shown if not line.startswith(b"refused, ")]
-    if done.returncode or len(kept) + len(shown) - len(accepted) + 2 * has_undo < len(lines):
-        return f"{what}: keeps {kept}, of which the program says {done.stdout}"
-    if not has_undo and b"\n".join([*accepted, b""]) != done.stdout:
-        return f"{what}: shows {shown}, and the program prints {done.stdout}"
-    return None
+    holds = {f"it ends with {status} {said}, and then {again}": status is None and again == (None, b"", ""),
+             "it keeps lines that were not entered": all(line in remaining for line in kept),
+             "it loses lines": len(kept) + len(shown) - len(accepted) + 2 * has_undo >= len(lines),
+             f"the program prints {done.stdout} for what it keeps":
+                 done.returncode == 0 and (has_undo or b"\n".join([*accepted, b""]) == done.stdout)}
+    return [f"script {number}: {lines}: {fault}; it keeps {kept}, and shows {shown}" for fault in holds if not holds[fault]]
 
 
 class Scripts(Case):
@@ -239,4 +233,4 @@ class Scripts(Case):
 
     def test_random_scripts(self):
         with ProcessPoolExecutor() as pool:
-            self.assertEqual([fault for fault in pool.map(fault_of, range(SCRIPTS), chunksize=10) if fault], [])
+            self.assertEqual([fault for found in pool.map(faults_of, range(SCRIPTS), chunksize=10) for fault in found], [])
