@@ -3,6 +3,8 @@
 A row is: command and profile | the line that ends the output | the input | words of the hint | the word at its mark. The status is 1;
 on standard error are a sentence with these words, the line as it was read, and a mark under that word. The head of the table says
 how inputs and marks are written."""
+import re
+
 from mistake_inputs import octets_of
 from support import ROOT, Case, ocp
 
@@ -10,14 +12,10 @@ TABLE = (ROOT / "tests/mistakes").read_text(encoding="utf-8").splitlines()
 ROWS = [row for row in TABLE if row and not row.startswith("//")]
 
 
-def is_word_at(mark, rest):
-    """Whether the text from the mark on begins with the word of the row."""
-    if mark == "its end":
-        return not rest
-    if mark == "a blank":
-        return rest.startswith(" ")
-    after = rest[len(mark):len(mark) + 1]
-    return rest.startswith(mark) and not (mark[-1].isalnum() and after.isalnum())
+def pattern_of(mark):
+    """What the line from its mark on has to match: the word of the row, which ends there."""
+    marks = {"its end": r"\Z", "a blank": " "}
+    return marks.get(mark) or re.escape(mark) + ("(?![0-9A-Za-z])" if mark[-1].isalnum() else "")
 
 
 class Hints(Case):
@@ -29,7 +27,7 @@ class Hints(Case):
             return self.assertEqual(len(said), 1, said)
         self.assertEqual(len(said), 3, said)
         self.assertEqual(said[2].strip(), "^", said)
-        self.assertTrue(is_word_at(mark, said[1][said[2].index("^"):]), f"the mark is not at {mark}: {said}")
+        self.assertRegex(said[1][said[2].index("^"):], rf"\A{pattern_of(mark)}")
         self.assertIn(said[1][4:], "".join(chr(it) if 32 <= it < 127 else "?" for it in given))
 
     def test_mistakes(self):
