@@ -139,6 +139,45 @@ def verdict(page):
     page.check("page: no line of it is marked", not page.marks("text", "may"))
 
 
+AGES = ("return ['listing', 'verdict', 'faults'].map(name => document.getElementById(name).classList.contains('old')).concat("
+        "['age-listing', 'age-verdict'].map(name => document.getElementById(name).checkVisibility()),"
+        "document.getElementById('text').parentElement.classList.contains('old'))")
+
+
+def age(page):
+    """What is shown of a text is marked as old from the moment on that the text is changed, until it is of the new one."""
+    page.set("text", "\tmov64 r0, 1\n\texit\n")
+    page.until("a text that is shown", lambda: "mov64 r0, 1" in page.shown("listing") and page.script(AGES) == [False] * 6)
+    write = ("const area = document.getElementById('text'); area.value = arguments[0]; area.dispatchEvent(new Event('input'));"
+             "return (() => {" + AGES + "})()")
+    page.check("page: a text that was changed at this moment", page.script(write, "\tmov64 r0, 2\n\texit\n") == [True] * 6)
+    page.until("its listing and verdict", lambda: "mov64 r0, 2" in page.shown("listing") and page.script(AGES) == [False] * 6)
+    page.script(write, "\tmov64 r0, 3\n\texit\n")
+    page.check("page: a text that is again what it was", page.script(write, "\tmov64 r0, 2\n\texit\n") == [False] * 6)
+    choose = "const field = document.getElementById('profile'); field.value = arguments[0]; field.dispatchEvent(new Event('change'));"
+    page.check("page: a profile that was changed", page.script(choose + "return (() => {" + AGES + "})()", "2") == [True] * 6)
+    page.until("the verdict under it", lambda: page.script(AGES) == [False] * 6)
+    page.script(choose, "1")
+    page.until("the verdict under the first one", lambda: page.script(AGES) == [False] * 6)
+    page.press("New")
+    page.until("a new text", lambda: page.script(AGES) == [False] * 6)
+    page.script("window.confirm = () => true")
+    page.press("Close")
+    page.until("the text before", lambda: "mov64 r0, 2" in page.shown("listing") and page.script(AGES) == [False] * 6)
+
+
+def columns(page):
+    """Lines of C have room in the field of the text."""
+    for width, least in ((1280, 60), (1440, 72), (1000, 66), (800, 50)):
+        page.driver.set_window_size(width, 1000)
+        time.sleep(0.3)
+        found = page.script("const area = document.getElementById('text'), part = document.createElement('span');"
+                            "part.textContent = 'x'.repeat(100); part.style.font = getComputedStyle(area).font; document.body.append(part);"
+                            "const one = part.getBoundingClientRect().width / 100; part.remove(); return area.clientWidth / one")
+        page.check(f"page: {found:.1f} columns of text at {width}, not {least}", found >= least)
+    page.driver.set_window_size(1280, 1000)
+
+
 def in_c(page):
     if not page.script("return document.getElementById('language').value") or not all(map(shutil.which, ("clang", "llvm-objdump"))):
         return print("skipped: no clang")
@@ -474,6 +513,7 @@ def page(address, ocp, check, pictures):
         walk_back(shown, ocp, pictures)
         faults(shown)
         verdict(shown)
+        age(shown)
         in_c(shown)
         breakpoints(shown, ocp)
         pending(shown)
@@ -485,6 +525,7 @@ def page(address, ocp, check, pictures):
         fields.shield(shown, texts.is_shielded() if texts.has_clang() else None)
         fields.profiles(shown)
         fields.words(shown)
+        columns(shown)
         nothing_overlaps(shown)
         by_keyboard(shown)
         with tempfile.TemporaryDirectory() as folder:

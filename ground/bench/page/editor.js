@@ -1,5 +1,5 @@
 // A text field with the numbers of its lines, and marks inside of the text: a fault or what may be one, with its hint, and the
-// line that is next.
+// line that is next. Marks of an older text are shown as such.
 import { heightSeen, make } from "./shared.js";
 
 const HEIGHT = 18, TAB = 8;
@@ -31,6 +31,7 @@ export function editor(area) {
     new ResizeObserver(paint).observe(area);
     return {
         paint,
+        age(old) { box.classList.toggle("old", old); },
         // Marks are lines with a kind, fault, may or next, and a hint; `shows` brings the line into view.
         mark(found, shows = null) {
             marks = found;

@@ -10,6 +10,7 @@ const NOT_CHECKED = { slots: {}, lines: [] };
 // The verdict of `ocp check` on an image, under the present profile and pool, if it was asked.
 const verdictKey = (image, { profile, pool } = options()) => `${profile} ${pool} ${image}`;
 const verdictOf = image => verdicts.get(verdictKey(image)) || NOT_CHECKED;
+const OF_TEXT = "of this text";
 let asked = 0, listed = "";
 
 export const EXAMPLE = `; Puts three numbers into a table on the stack
@@ -29,6 +30,16 @@ again:  stxdw [r2], r1     ; a number
         exit
 `;
 const shown = () => it.texts[it.tab];
+
+// What an image and its verdict are made of. While a text has another source than its image, what is shown of it is old.
+const sourceOf = ({ text, language }, { profile, pool } = options()) => JSON.stringify([text, language, profile, pool]);
+function showAge() {
+    const old = shown().source !== sourceOf(shown()), isListed = at("listed").textContent === OF_TEXT || listed === shown().image;
+    field.age(old);
+    at("faults").classList.toggle("old", old);
+    for (const name of ["listing", "verdict"]) at(name).classList.toggle("old", old && isListed);
+    for (const name of ["age-listing", "age-verdict"]) at(name).hidden = !(old && isListed);
+}
 const suffix = text => text.language === "c" ? "c" : "asm";
 
 function newText(name, text = "", language = "asm") {
@@ -70,11 +81,12 @@ function mark(next = null) {
 export const readText = guarded(async () => {
     const mine = ++asked, text = shown();
     keep();
-    const chosen = options();
+    showAge();
+    const chosen = options(), source = sourceOf(text, chosen);
     const found = await question("text", { text: text.text, language: text.language, options: chosen });
     if (mine !== asked || text !== shown()) return;
     say("");
-    Object.assign(text, { image: found.image, places: found.places, faults: found.faults });
+    Object.assign(text, { image: found.image, places: found.places, faults: found.faults, source });
     listings.set(found.image, found.listing);
     verdicts.set(verdictKey(found.image, chosen), found.verdict);
     at("faults").textContent = [...found.faults.map(([line, fault]) => line ? `line ${line}: ${fault}` : fault),
@@ -86,7 +98,7 @@ export const readText = guarded(async () => {
 
 // The listing of an image, with the place that is next and the places that are marked.
 function list(image, place = -1) {
-    at("listed").textContent = place < 0 ? "of this text" : `of procedure ${it.chosen}`;
+    at("listed").textContent = place < 0 ? OF_TEXT : `of procedure ${it.chosen}`;
     const rows = listings.get(image) || [], marked = it.marks.get(it.chosen) || new Set(), places = placesOf(image);
     const { slots, lines } = verdictOf(image);
     at("verdict").textContent = [...Object.entries(slots).map(([slot, why]) => `slot ${slot}   ${why}`), ...lines].join("\n");
@@ -104,6 +116,7 @@ function list(image, place = -1) {
         row.title = slots[slot] || "";
         if (slot === place) keepInView(at("listing"), row);
     }
+    showAge();
 }
 const placesOf = image => (it.texts.find(text => text.image === image) || {}).places || {};
 
@@ -135,7 +148,7 @@ export function instructionAt(image, place) {
 
 export function start() {
     if (!it.texts.length) newText("first", "mov64 r0, 5\nadd64 r0, 2\nexit\n"); else show(it.tab);
-    at("text").addEventListener("input", () => { shown().text = at("text").value; });
+    at("text").addEventListener("input", () => { shown().text = at("text").value; showAge(); });
     at("text").addEventListener("input", later(readText));
     at("language").onchange = () => { shown().language = at("language").value; readText(); };
     at("name").oninput = () => { shown().name = at("name").value; tabs(); keep(); };
