@@ -144,7 +144,7 @@ uint32_t ocp_close(struct ocp_engine *engine);
 #define OCP_REQUEST_REPORTS ((size_t)272)
 #define OCP_DRAIN_REPORTS ((size_t)1600)
 
-/* Executes one telecommand packet, at a time in whole seconds. Writes its reports to the buffer: whole telemetry packets, one
+/* Executes one telecommand packet, at a time that the caller gives. Writes its reports to the buffer: whole telemetry packets, one
  * after the other, in the order in which they are sent. Writes their length in octets to the last argument (0 if there are
  * none). The rest of the buffer stays as it was.
  * A request that is rejected or that fails returns OCP_DONE: its reports say so.
@@ -153,7 +153,7 @@ uint32_t ocp_close(struct ocp_engine *engine);
 uint32_t ocp_request(struct ocp_engine *engine, uint32_t time, const uint8_t *packet, size_t packet_length,
                      uint8_t *reports, size_t reports_length, size_t *written);
 
-/* Reports all completions that wait, the oldest first, at a time in whole seconds. Writes the reports as ocp_request does.
+/* Reports all completions that wait, the oldest first, at a time that the caller gives. Writes the reports as ocp_request does.
  * Refusals: OCP_NOT_OPEN, OCP_BUFFER_TOO_SMALL (under OCP_DRAIN_REPORTS), OCP_NOTHING_DUE, OCP_JOURNAL_FULL. */
 uint32_t ocp_drain(struct ocp_engine *engine, uint32_t time, uint8_t *reports, size_t reports_length, size_t *written);
 

@@ -1,4 +1,4 @@
-/* Telecommands of service 18, for the programs here that are their own ground. `docs/GROUND.md` has the layout. */
+/* Telecommands of service 18, for the programs here that are their own ground. `docs/PROFILE.md` has the layout. */
 #ifndef TELECOMMAND_H
 #define TELECOMMAND_H
 
