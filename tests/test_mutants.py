@@ -303,7 +303,8 @@ class OfChecks(unittest.TestCase):
         self.assertEqual(self.outcome(self.MISSING, self.NOTE + self.FALSE, self.FAILED).goals, ["returns-then"])
 
     def test_only_a_name_is_missing(self):
-        for lines in ([self.MISSING, self.FAILED], [self.MISSING, self.NOTE, self.FAILED]):
+        unnamed = self.MISSING.replace("`returns`: ", "")
+        for lines in ([self.MISSING, self.FAILED], [self.MISSING, self.NOTE, self.FAILED], [unnamed, "fn high::high: no proof"]):
             found = self.outcome(*lines)
             self.assertEqual((found.verdict, found.goals), ("not-tried", []))
             self.assertIn("names what the edit took away", found.why)

@@ -26,9 +26,9 @@ pub {name}_spec : {{M : Type 1}} → statement M
 NOTE = re.compile(r"^note: (src/\S+\.rt):(\d+):\d+: .*? \(`([^`]+)`\)(.*)", re.MULTILINE)
 UNPROVED = re.compile(r"^fn (\S+): ((?:not proved|no proof|could not tell).*)", re.MULTILINE)
 # An answer of a function's proof that is refused.
-ERROR = re.compile(r"^(?:\./)?proofs/(\S+)/\w+\.antt:\d+:\d+: error: `([^`]+)`: (.*)", re.MULTILINE)
+ERROR = re.compile(r"^(?:\./)?proofs/(\S+)/\w+\.antt:\d+:\d+: error: (?:`([^`]+)`: )?(.*)", re.MULTILINE)
 # What the edit took away has a name that the answer needs: that says nothing of the contract.
-MISSING = re.compile(r"has no field|is not in scope|has no `|was not admitted")
+MISSING = re.compile(r"has no field|is not in scope|is no name|has no `|was not admitted")
 FALSE = "the facts known there allow values at which this goal is false"
 COMPILING = re.compile(r"^\S+:\d+:\d+: error.*", re.MULTILINE)
 REFUSED, PROVED, NO_VERDICT = "refused", "proved", "not-tried"
@@ -116,17 +116,17 @@ class Said:
         counts whose answer was read and refused, or that no answer was written for; if names are missing that answers need, only
         one that is false."""
         errors = [(goal, why) for path, goal, why in self.errors if any(path[: len(it)] == it for it in paths)]
-        missing = [goal for goal, why in errors if MISSING.search(why)]
+        missing = [why for _, why in errors if MISSING.search(why)]
         open_goals = [(goal, more) for where, goal, more in self.notes if place is None or where == place]
-        sound = [goal for goal, why in errors if not MISSING.search(why)]
+        sound = [goal for goal, why in errors if goal and not MISSING.search(why)]
         sound += [goal for goal, more in open_goals if not missing or FALSE in more]
         if not missing:
             sound += [goal for path in sorted(paths) for goal in self.named(path)]
         if sound:
             return refused(sound)
         if missing:
-            why = next(why for _, why in errors if MISSING.search(why))
-            return not_tried(f"an answer names what the edit took away: {why[:160]}")
+            first = missing[0].replace("Rattle.", "")
+            return not_tried(f"its proof names what the edit took away: {first[:160]}")
         return None if paths & set(self.failed) else Outcome(PROVED, [], "")
 
 
@@ -226,26 +226,37 @@ class Room:
     def place_of(self, mutant):
         return (self.inner / mutant.place, *mutant.method)
 
-    def compiling(self, mutants):
-        """Those of some mutants with which the crate compiles: if it does not with all of them, each half is looked at."""
-        if not mutants or not self.check_with(mutants, "--only", "").fault:
-            return mutants
+    def compiles(self, mutants):
+        """Whether the crate compiles with mutants. A check of the sources alone takes a few seconds."""
+        return not self.check_with(mutants, "--only", "").fault
+
+    def batches(self, mutants):
+        """Mutants in batches with which the crate compiles, as few as halving finds; one with which it does not is in none."""
+        if self.compiles(mutants):
+            return [mutants]
         if len(mutants) == 1:
             return []
         half = len(mutants) // 2
-        return self.compiling(mutants[:half]) + self.compiling(mutants[half:])
+        found, more = self.batches(mutants[:half]), self.batches(mutants[half:])
+        if found and more and self.compiles(found[0] + more[0]):
+            found[0] += more.pop(0)
+        return found + more
+
+    def parted(self, mutants):
+        """Mutants whose check together gave no verdict, in smaller batches."""
+        batches = self.batches(mutants)
+        found = sum(batches, [])
+        alone = [[mutant] for mutant in mutants if mutant not in found]
+        return batches + alone if len(batches) != 1 or alone else [[mutant] for mutant in mutants]
 
     def try_at_once(self, mutants):
-        """How each mutant ended in one check of their functions, or in one of the mutant alone if that does not tell."""
+        """How each mutant ended in one check of their functions, or in several if that does not tell."""
         kept = set().union(*(mutant.paths for mutant in mutants))
         self.make_holes(kept)
         said = self.check_with(mutants, *flags_of(kept))
         if said.fault and len(mutants) > 1:
-            # A check of the sources alone takes about two seconds.
-            sound = self.compiling(mutants)
-            alone = [mutant for mutant in mutants if mutant not in sound]
-            for some in [sound, *([it] for it in alone)] if alone and sound else ([it] for it in mutants):
-                yield from self.try_at_once(some)
+            for batch in self.parted(mutants):
+                yield from self.try_at_once(batch)
             return
         for mutant in mutants:
             found = not_tried(said.fault) if said.fault else said.outcome(mutant.paths, self.place_of(mutant))
