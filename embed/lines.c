@@ -17,6 +17,7 @@
 enum { LINE = 40002, MOST_MEMORY = 256, SECONDARY = 17 };
 
 static struct ocp_engine engine = OCP_CLOSED;
+static struct journal_writer journal = {.flight = 1, .cycles = 1, .file = -1};
 static uint32_t seconds;
 
 static const char *name_of(uint32_t status)
@@ -204,19 +205,20 @@ int main(int words, char **word)
     for (int at = 0; at < 5; at++)
         if (!read_number(word[at + 1], UINT32_MAX, &numbers[at]))
             return 2;
-    const struct parameters parameters = {.profile = (uint32_t)numbers[0], .apid = (uint32_t)numbers[1],
-                                          .pool_words = (uint32_t)numbers[2], .entries = (uint32_t)numbers[3],
-                                          .octets = (uint32_t)numbers[4]};
-    if (open_engine(&engine, &parameters) != OCP_DONE)
+    struct parameters *with = &journal.with;
+    uint32_t *const parameters[] = {&with->profile, &with->apid, &with->pool_words, &with->entries, &with->octets};
+    for (int at = 0; at < 5; at++)
+        *parameters[at] = (uint32_t)numbers[at];
+    if (open_engine(&engine, &journal.with) != OCP_DONE)
         return 3;
-    if (words == 7 && !begin_journal(word[6], &parameters))
+    if (words == 7 && !begin_journal(&journal, word[6]))
         return 3;
     bool known = true;
     while (known && fgets(line, sizeof line, stdin) != NULL) {
         line[strcspn(line, "\r\n")] = '\0';
         known = line_of_script(line);
     }
-    if (!end_journal(&engine))
+    if (!end_journal(&journal, &engine))
         return 3;
     ocp_close(&engine);
     return known ? 0 : 1;

@@ -54,7 +54,8 @@ enum {
     PAGES = 16            /* by which the resident set may differ */
 };
 
-static const struct parameters parameters = {.profile = 1, .apid = APID, .pool_words = POOL_WORDS, .entries = 2000, .octets = 31000};
+static struct journal_writer journal = {
+    .with = {.profile = 1, .apid = APID, .pool_words = POOL_WORDS, .entries = 2000, .octets = 31000}, .flight = 1, .cycles = 1};
 static struct ocp_engine engine = OCP_CLOSED;
 static FILE *reports_file;
 static uint32_t cycle;
@@ -240,7 +241,7 @@ static void run_cycle(void)
     give_rounds(input);
     drain();
     bool is_dark = cycle % LONG_RUN >= DARK && cycle % LONG_RUN < LIGHT;
-    if (cycle % PASS == 0 && !is_dark && !keep_journal(&engine))
+    if (cycle % PASS == 0 && !is_dark && !keep_journal(&journal, &engine))
         fail("the journal can't be written");
 }
 
@@ -280,11 +281,11 @@ int main(int words, char **word)
         return 2;
     }
     reports_file = fopen(word[3], "wb");
-    if (reports_file == NULL || open_engine(&engine, &parameters) != OCP_DONE || !begin_journal(word[2], &parameters))
+    if (reports_file == NULL || open_engine(&engine, &journal.with) != OCP_DONE || !begin_journal(&journal, word[2]))
         fail("no engine, or no file");
     may_call = false;
     fly((uint32_t)cycles);
-    if (!end_journal(&engine) || fclose(reports_file) != 0)
+    if (!end_journal(&journal, &engine) || fclose(reports_file) != 0)
         fail("a file can't be written");
     show_events(&engine);
     show_view(&engine, ADDER);

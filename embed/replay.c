@@ -3,13 +3,17 @@
  *   replay FILE.. [--until EVENT] [--view ID].. [--reports]
  *
  * The files are one journal in parts, in their order; `ocp_journal.h` has its form. Entries are read, given and released one by
- * one, so a journal of any length takes no more memory than the engine. The replay ends after the last entry, or after EVENT
- * events. It prints the number of events, the view of each procedure ID, and the pool, in the lines of the console. With
- * --reports it compares the engine's reports with those on standard input, which came down, octet for octet.
+ * one, so a journal of any length, and of any store, takes no more memory than an engine with room for one entry. The replay ends
+ * after the last entry, or after EVENT events. It prints the number of events, the view of each procedure ID, and the pool, in
+ * the lines of the console. With --reports it compares the engine's reports with those on standard input, which came down, octet
+ * for octet.
  *
- * If the journal is cut or damaged, or the reports differ, a line says where, and everything before it is used.
+ * A line says each range of entries that is missing, comes again, comes after later ones, or is of another flight, and each
+ * damage, by file and octet. After the first missing entry the state is unknown: later entries are looked at and not given, and
+ * what is shown is the state before it.
  *
- * Status: 0 done, 1 cut, damaged, different, or fewer events than EVENT, 2 wrong words, 3 no engine. */
+ * Status: 0 done, 1 the reports differ, an entry can't be done, or there are fewer events than EVENT, 2 wrong words, 3 no engine,
+ * 4 the journal is not whole. */
 #include "ocp_engine.h"
 #include "ocp_journal.h"
 #include "ocp_octets.h"
@@ -21,7 +25,7 @@
 #include <stdio.h>
 #include <string.h>
 
-enum { MOST_IDS = 64, FAILED = 1, WRONG_WORDS, NO_ENGINE };
+enum { MOST_IDS = 64, FAILED = 1, WRONG_WORDS, NO_ENGINE, NOT_WHOLE };
 
 static struct journal_reader journal;
 static struct ocp_engine engine = OCP_CLOSED;
@@ -29,6 +33,7 @@ static uint64_t events, until = UINT64_MAX;
 static uint16_t ids[MOST_IDS];
 static int id_count;
 static bool has_reports;
+static bool is_whole = true, is_known = true; /* the journal so far, and the state */
 
 /* Says why the replay ends early, and at which octet of a file. */
 static bool fail_at(const char *file, uint64_t octet, const char *why)
@@ -39,17 +44,85 @@ static bool fail_at(const char *file, uint64_t octet, const char *why)
 
 static bool fail(const char *why)
 {
-    return fail_at(journal.record_part, journal.record_offset, why);
+    return fail_at(journal.name, journal.octet, why);
+}
+
+/* ---- the journal */
+
+static void tell_entries(const char *what)
+{
+    fprintf(stderr, "replay: %s, octet %" PRIu64 ": ", journal.name, journal.octet);
+    if (journal.from == journal.to)
+        fprintf(stderr, "entry %" PRIu64 " %s\n", journal.from, what);
+    else
+        fprintf(stderr, "entries %" PRIu64 " to %" PRIu64 " %s\n", journal.from, journal.to, what);
+}
+
+static void tell_octets(const char *what)
+{
+    fprintf(stderr, "replay: %s, octet %" PRIu64 ": %" PRIu64 " octets %s\n", journal.name, journal.octet, journal.to, what);
+}
+
+/* Says what is wrong with the journal here. */
+static void tell(enum journal_found what)
+{
+    is_whole = false;
+    switch (what) {
+    case JOURNAL_MISSING:
+        is_known = false;
+        tell_entries("missing: the state after this is unknown");
+        break;
+    case JOURNAL_AGAIN:
+        tell_entries("again: passed over");
+        break;
+    case JOURNAL_SWAPPED:
+        tell_entries("after later ones: pieces are swapped; passed over");
+        break;
+    case JOURNAL_OTHER_FLIGHT:
+        tell_entries("of another flight: passed over");
+        break;
+    case JOURNAL_DAMAGED:
+        tell_octets("damaged: passed over");
+        break;
+    case JOURNAL_CUT:
+        tell_octets("of a block without its end: the journal is cut");
+        break;
+    case JOURNAL_UNREADABLE:
+        fprintf(stderr, "replay: %s: %s\n", journal.name, strerror(journal.error));
+        break;
+    default:
+        fprintf(stderr, "replay: out of memory\n");
+    }
+}
+
+/* Reads the next entry, and says what is wrong before it. Gives whether there is one. */
+static bool next_entry(uint8_t **entry, size_t *length)
+{
+    enum journal_found what;
+    while ((what = read_journal(&journal, entry, length)) != JOURNAL_ENTRY && what != JOURNAL_END) {
+        tell(what);
+        if (what == JOURNAL_NO_MEMORY)
+            return false;
+    }
+    return what == JOURNAL_ENTRY;
 }
 
 /* ---- the replay */
 
+/* Opens an engine with room for the longest entry: each is released once it is done. */
 static bool open_flown(void)
 {
-    struct parameters flown;
-    if (!read_parameters(&journal, &flown))
-        return fail(journal.fault);
-    return open_engine(&engine, &flown) == OCP_DONE || fail("no engine opens with these parameters");
+    if (!begin_reading(&journal)) {
+        uint8_t *entry;
+        size_t length;
+        next_entry(&entry, &length);
+        fprintf(stderr, "replay: no journal is in the files\n");
+        return false;
+    }
+    struct parameters flown = journal.with;
+    flown.entries = 1;
+    flown.octets = (uint32_t)OCP_LONGEST_ENTRY;
+    return open_engine(&engine, &flown) == OCP_DONE || fail("no engine opens with the parameters of the journal");
 }
 
 /* Compares reports of the engine with those that came down. */
@@ -77,16 +150,17 @@ static bool give(uint8_t *entry, size_t length)
     return !has_reports || compare_reports(reports, written);
 }
 
-/* Gives the entries up to the last event that is wanted. Returns whether the journal and the reports are whole so far. */
+/* Gives the entries up to the last event that is wanted, or up to the first that is missing. Returns whether all were done, and
+ * the reports are the same. */
 static bool give_entries(void)
 {
     uint8_t *entry;
     size_t length;
-    while (events < until && read_entry(&journal, &entry, &length))
-        if (!give(entry, length))
+    while (events < until && next_entry(&entry, &length))
+        if (is_known && !give(entry, length))
             return false;
-    if (journal.fault != NULL)
-        return fail(journal.fault);
+    if (!is_whole)
+        return true;
     if (until != UINT64_MAX)
         return events == until || fail("the journal has fewer events");
     return !has_reports || getchar() == EOF || fail("more reports came down than the journal has");
@@ -135,8 +209,9 @@ int main(int words, char **word)
     }
     if (!open_flown())
         return NO_ENGINE;
-    bool is_whole = give_entries();
+    bool is_done = give_entries();
     show();
+    end_reading(&journal);
     ocp_close(&engine);
-    return is_whole ? 0 : FAILED;
+    return !is_done ? FAILED : is_whole ? 0 : NOT_WHOLE;
 }

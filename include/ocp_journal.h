@@ -1,9 +1,39 @@
 /* The journal as a file: written in flight, read on ground, and given to an engine again.
  *
- * The file begins with the parameters of ocp_open: profile, application process identifier, pool words, and the journal's
- * entries and octets (4 octets each). Each entry follows: its length (4 octets), and its octets as ocp_entry gives them. The
- * parameters, and each entry with its length, end with the error control of packets over them (2 octets). Numbers are
- * big-endian. A file may be cut into several at any place. */
+ * Version 2. The file is a row of blocks. Each block can be found and read by itself, and says which entries it has, so what is
+ * lost, damaged, doubled or out of order on the way to ground is noticed. Numbers are big-endian; a block is
+ *
+ *    0  4  the octets `OCPJ`
+ *    4  1  2, the version of this form
+ *    5  1  the profile,                           as given to ocp_open
+ *    6  2  the application process identifier,    too
+ *    8  2  the number of pool words,              too
+ *   10  4  the journal's entries,                 too
+ *   14  4  the journal's octets,                  too
+ *   18  8  the identifier of the flight
+ *   26  8  the index of the first entry, counted from 0 since ocp_open
+ *   34  4  the number of entries, at least 1
+ *   38  4  the length of what these entries are packed into
+ *   42  2  the error control of packets over the octets before
+ *   44     the packed entries
+ *       4  CRC-32 of all octets of the block before
+ *
+ * Packed entries are codes, one after the other. An entry of seat 0 that puts a pool word, or that is instructions, has a short
+ * code. Numbers in codes have 7 bits an octet, the least first; bit 7 is set if more follow. A change is the value less the
+ * one that the block put into that word before (at first 0), times 2 if it is not negative, else -2 times it less 1, modulo 2^64.
+ *
+ *   00 to 3f  pool word 0 to 63 is put: the change
+ *   40 to 5f  instructions of the procedure with this number in the block's list, as many as in its entry before
+ *   60 to 7f  the same, another number of instructions: the number
+ *   80        instructions of a procedure that is not in the list, and becomes its next one, if there is room for 32: its
+ *             identifier (2 octets), the number of instructions
+ *   81        any entry: its length, its octets
+ *   82        pool word 64 to 319 is put: the index less 64 (1 octet), the change
+ *
+ * Version 1 is still read. It begins with the five parameters (4 octets each); each entry follows with its length before it
+ * (4 octets). The parameters, and each entry with its length, end with the error control of packets over them.
+ *
+ * A journal may be cut into several files at any place. Link embed/journal.c to write one, embed/journal_reader.c to read one. */
 #ifndef OCP_JOURNAL_H
 #define OCP_JOURNAL_H
 
@@ -15,8 +45,9 @@
 #include <stdint.h>
 #include <stdio.h>
 
-enum { NUMBER_OCTETS = 4, PARAMETER_OCTETS = 5 * NUMBER_OCTETS, CONTROL_OCTETS = 2 };
-enum { LONGEST_RECORD = NUMBER_OCTETS + OCP_LONGEST_ENTRY + CONTROL_OCTETS };
+#ifdef __cplusplus
+extern "C" {
+#endif
 
 /* The arguments of ocp_open. */
 struct parameters {
@@ -28,168 +59,117 @@ static inline uint32_t open_engine(struct ocp_engine *engine, const struct param
     return ocp_open(engine, with->profile, with->apid, with->pool_words, with->entries, with->octets);
 }
 
-static inline void put_parameters(uint8_t *octets, const struct parameters *with)
-{
-    const uint32_t numbers[] = {with->profile, with->apid, with->pool_words, with->entries, with->octets};
-    for (int at = 0; at < 5; at++)
-        put_number(octets + at * NUMBER_OCTETS, numbers[at], NUMBER_OCTETS);
-}
+enum { JOURNAL_HEAD = 44, JOURNAL_CHECK = 4, LISTED_PROCEDURES = 32, PACKED_WORDS = 320, SHORT_WORDS = 64 };
 
-static inline struct parameters parameters_at(const uint8_t *octets)
-{
-    uint32_t numbers[5];
-    for (int at = 0; at < 5; at++)
-        numbers[at] = (uint32_t)number_at(octets + at * NUMBER_OCTETS, NUMBER_OCTETS);
-    struct parameters with = {numbers[0], numbers[1], numbers[2], numbers[3], numbers[4]};
-    return with;
-}
-
-static FILE *journal_file; /* where the journal goes; nowhere while it is null */
-
-/* Writes octets and their error control, for which the buffer has room. */
-static inline void journal_record(uint8_t *octets, size_t length)
-{
-    put_number(octets + length, error_control(octets, length), CONTROL_OCTETS);
-    fwrite(octets, 1, length + CONTROL_OCTETS, journal_file);
-}
-
-/* Begins the file of an engine that was just opened, and gives whether it is there. */
-static inline bool begin_journal(const char *name, const struct parameters *with)
-{
-    uint8_t record[PARAMETER_OCTETS + CONTROL_OCTETS];
-    journal_file = fopen(name, "wb");
-    if (journal_file == NULL)
-        return false;
-    put_parameters(record, with);
-    journal_record(record, PARAMETER_OCTETS);
-    return true;
-}
-
-/* Writes the entries that the engine holds, and releases them once the file has them; without a file it only releases them.
- * Gives whether it could. */
-static inline bool keep_journal(struct ocp_engine *engine)
-{
-    static uint8_t record[LONGEST_RECORD];
-    uint64_t index, count = 0;
-    size_t length;
-    if (ocp_first_entry(engine, &index) != OCP_DONE)
-        return false;
-    while (ocp_entry(engine, index + count, record + NUMBER_OCTETS, OCP_LONGEST_ENTRY, &length) == OCP_DONE) {
-        count++;
-        if (journal_file != NULL) {
-            put_number(record, length, NUMBER_OCTETS);
-            journal_record(record, NUMBER_OCTETS + length);
-        }
-    }
-    if (journal_file != NULL && fflush(journal_file) != 0)
-        return false;
-    return ocp_release(engine, count) == OCP_DONE;
-}
-
-/* Ends the file before its engine is closed, and gives whether it has all entries, or none was begun. */
-static inline bool end_journal(struct ocp_engine *engine)
-{
-    if (journal_file == NULL)
-        return true;
-    bool whole = keep_journal(engine);
-    whole = !ferror(journal_file) && whole;
-    whole = fclose(journal_file) == 0 && whole;
-    journal_file = NULL;
-    return whole;
-}
-
-/* A journal in one file or several. Set `part` alone before the first call. */
-struct journal_reader {
-    char **part;     /* the name of the file that is read, then those after it, then a null */
-    FILE *file;      /* that file, once it is open */
-    uint64_t offset; /* of the next octet in it */
-
-    const char *record_part; /* the file and the octet where the last record begins */
-    uint64_t record_offset;
-    const char *fault; /* why that record can't be used, or null */
-    uint8_t record[LONGEST_RECORD];
+/* What the codes of a block refer to. Zeros at its beginning. */
+struct journal_packing {
+    uint64_t words[PACKED_WORDS];        /* the values put before */
+    uint16_t ids[LISTED_PROCEDURES];     /* the list of procedures */
+    uint32_t counts[LISTED_PROCEDURES];  /* the instructions of the entry before */
+    uint32_t listed;
 };
 
-/* Notes why the record can't be used, if nothing was noted yet. */
-static inline bool refuse_record(struct journal_reader *journal, const char *fault)
-{
-    if (journal->fault == NULL)
-        journal->fault = fault;
-    return false;
-}
+/* ---- writing */
 
-static inline bool open_part(struct journal_reader *journal)
-{
-    journal->file = fopen(*journal->part, "rb");
-    journal->offset = 0;
-    if (journal->file != NULL)
-        return true;
-    journal->record_part = *journal->part;
-    journal->record_offset = 0;
-    return refuse_record(journal, "the file can't be read");
-}
+/* A journal that is written. The program sets the first three and calls begin_journal; for a journal that is released and not
+ * written, it sets `file` to -1. */
+struct journal_writer {
+    struct parameters with;
+    uint64_t flight; /* an identifier that no other flight of the mission has */
+    uint32_t cycles; /* how many calls of keep_journal write one block */
 
-static inline void close_part(struct journal_reader *journal)
-{
-    fclose(journal->file);
-    journal->file = NULL;
-    journal->part++;
-}
+    int file;        /* a file descriptor */
+    uint32_t kept;   /* calls since the last block */
+    uint64_t next;   /* the index after the last entry that was written */
+    int64_t end;     /* of the last whole block in the file */
+    bool is_torn;    /* whether a part of a block may follow it */
+    uint32_t check;  /* of the block that is written, so far */
+    size_t used;     /* octets in `output` that are not written yet */
+    uint8_t output[1024];
+    uint8_t entry[OCP_LONGEST_ENTRY];
+    struct journal_packing packing;
+};
 
-/* Reads octets, which may go on in the next file. Gives how many there are. */
-static inline size_t read_octets(struct journal_reader *journal, uint8_t *octets, size_t length)
-{
-    size_t got = 0;
-    while (got < length && *journal->part != NULL && (journal->file != NULL || open_part(journal))) {
-        size_t more = fread(octets + got, 1, length - got, journal->file);
-        got += more;
-        journal->offset += more;
-        if (more == 0)
-            close_part(journal);
-    }
-    return got;
-}
+/* Begins the file of an engine that was just opened, and gives whether it is there. */
+bool begin_journal(struct journal_writer *writer, const char *name);
 
-/* Reads a record on from its octet `from`, and checks its error control. */
-static inline bool end_record(struct journal_reader *journal, size_t from, size_t length)
-{
-    size_t rest = length + CONTROL_OCTETS - from;
-    if (read_octets(journal, journal->record + from, rest) < rest)
-        return refuse_record(journal, "the journal is cut");
-    if (error_control(journal->record, length + CONTROL_OCTETS) != 0)
-        return refuse_record(journal, "the journal is damaged");
-    return true;
-}
+/* Is called once in a cycle. Every `cycles` calls, or if less than a quarter of the store is free, it writes the entries that
+ * the engine holds as a block, and releases them when the file has it whole.
+ *
+ * It gives false if a block could not be written, or its entries not be released. Then the engine holds the entries, the file
+ * is cut back to its last whole block, and each further call tries again. So the flight goes on while the store has room. */
+bool keep_journal(struct journal_writer *writer, struct ocp_engine *engine);
 
-static inline void begin_record(struct journal_reader *journal)
-{
-    journal->record_part = *journal->part;
-    journal->record_offset = journal->offset;
-}
+/* Writes and releases now what the engine holds; else as keep_journal. */
+bool keep_journal_now(struct journal_writer *writer, struct ocp_engine *engine);
 
-/* Reads the arguments of ocp_open, with which the journal begins. If there are none, `fault` says why. */
-static inline bool read_parameters(struct journal_reader *journal, struct parameters *with)
-{
-    begin_record(journal);
-    if (!end_record(journal, 0, PARAMETER_OCTETS))
-        return false;
-    *with = parameters_at(journal->record);
-    return true;
-}
+/* Ends the file before its engine is closed, and gives whether it has all entries. */
+bool end_journal(struct journal_writer *writer, struct ocp_engine *engine);
 
-/* Reads the next entry. If there is none, `fault` says why; at the end of the journal it is null. */
-static inline bool read_entry(struct journal_reader *journal, uint8_t **entry, size_t *length)
-{
-    begin_record(journal);
-    size_t got = read_octets(journal, journal->record, NUMBER_OCTETS);
-    if (got < NUMBER_OCTETS)
-        return got > 0 && refuse_record(journal, "the journal is cut");
-    *length = (size_t)number_at(journal->record, NUMBER_OCTETS);
-    if (*length > OCP_LONGEST_ENTRY)
-        return refuse_record(journal, "the journal is damaged");
-    *entry = journal->record + NUMBER_OCTETS;
-    return end_record(journal, NUMBER_OCTETS, NUMBER_OCTETS + *length);
-}
+/* ---- reading */
+
+/* What comes next in a journal that is read. */
+enum journal_found {
+    JOURNAL_ENTRY,        /* the entry of index `from` */
+    JOURNAL_END,          /* nothing more */
+    JOURNAL_MISSING,      /* entries `from` to `to` are not here; the next one is entry `to` + 1 */
+    JOURNAL_AGAIN,        /* entries `from` to `to` come again; they are passed over */
+    JOURNAL_SWAPPED,      /* entries `from` to `to`, which were missing, come after later ones; they are passed over */
+    JOURNAL_OTHER_FLIGHT, /* entries `from` to `to` are of another flight, or engine; they are passed over */
+    JOURNAL_DAMAGED,      /* octets are not those that were written; they are passed over, and `to` says how many */
+    JOURNAL_CUT,          /* the journal ends within a block; `to` says how many octets of it there are */
+    JOURNAL_UNREADABLE,   /* a file can't be read, and is passed over */
+    JOURNAL_NO_MEMORY     /* there is no memory for a block: nothing more is read */
+};
+
+enum { MISSING_RANGES = 64 };
+
+/* A journal in one file or several. Begin with zeros and `part`. */
+struct journal_reader {
+    char **part; /* the name of the file that is read, then those after it, then a null */
+
+    /* what was found: the file and the octet in it where it begins, and a range of indices, or a number of octets */
+    const char *name;
+    uint64_t octet, from, to;
+    int error; /* of a file that can't be read: errno */
+
+    /* what the journal says of itself, after begin_reading */
+    uint32_t version; /* 1 or 2 */
+    struct parameters with;
+    uint64_t flight;
+    uint64_t next; /* the index after the last entry */
+
+    /* the reader's own */
+    FILE *file;
+    char **first_part;
+    uint64_t *begins;           /* where each file begins, in all files together */
+    size_t opened;              /* files */
+    uint8_t *held;              /* octets that were read and not used: from `start` to `filled` */
+    size_t start, filled, room;
+    uint64_t position;          /* of `start` in all files together */
+    uint64_t junk;              /* octets before it that belong to no block */
+    uint64_t cut;               /* where a block begins that has no end, and 1 more; 0 if there is none */
+    size_t whole, at, after;    /* the block at `start`: its length, its next code, the end of its codes */
+    uint32_t left;              /* entries of it that are not read yet */
+    uint64_t index;             /* of the next one */
+    bool has_block, is_judged, is_unreadable, has_no_memory;
+    uint64_t missing[MISSING_RANGES][2];
+    size_t missed;
+    struct journal_packing packing;
+    uint8_t entry[OCP_LONGEST_ENTRY];
+};
+
+/* Reads on to the first block, or the parameters of version 1. Gives false if the files have none. What it passed over is told by
+ * read_journal. */
+bool begin_reading(struct journal_reader *journal);
+
+/* Reads what comes next. An entry is in `entry`, with its length. */
+enum journal_found read_journal(struct journal_reader *journal, uint8_t **entry, size_t *length);
+
+/* Gives memory and file back. */
+void end_reading(struct journal_reader *journal);
+
+/* ---- entries, given to an engine again */
 
 enum { ENTRY_FIELDS = 3 /* an entry's first octet after its kind and its seat */, SHORTEST_ENTRY = 7 };
 
@@ -230,5 +210,9 @@ static inline bool give_entry(struct ocp_engine *engine, const uint8_t *entry, s
         return false;
     }
 }
+
+#ifdef __cplusplus
+}
+#endif
 
 #endif

@@ -1,4 +1,4 @@
-/* Octets of packets and journals: big-endian numbers of 1 to 8 octets, and the error control of packets. */
+/* Octets of packets and journals: big-endian numbers of 1 to 8 octets, the error control of packets, and CRC-32. */
 #ifndef OCP_OCTETS_H
 #define OCP_OCTETS_H
 
@@ -36,6 +36,20 @@ static inline uint16_t remainder_after(uint16_t rest, const uint8_t *octets, siz
 static inline uint16_t error_control(const uint8_t *octets, size_t length)
 {
     return remainder_after(0xffff, octets, length);
+}
+
+/* CRC-32 of ISO-HDLC (Ethernet, zlib) over octets that follow others, four bits at a time: `check` is that of the octets
+ * before, and 0 at the beginning. */
+static inline uint32_t crc_32(uint32_t check, const uint8_t *octets, size_t length)
+{
+    static const uint32_t remainders[16] = {0x00000000, 0x1db71064, 0x3b6e20c8, 0x26d930ac, 0x76dc4190, 0x6b6b51f4, 0x4db26158, 0x5005713c,
+                                            0xedb88320, 0xf00f9344, 0xd6d6a3e8, 0xcb61b38c, 0x9b64c2b0, 0x86d3d2d4, 0xa00ae278, 0xbdbdf21c};
+    check = ~check;
+    for (size_t at = 0; at < length; at++) {
+        check = check >> 4 ^ remainders[(check ^ octets[at]) & 15];
+        check = check >> 4 ^ remainders[(check ^ octets[at] >> 4) & 15];
+    }
+    return ~check;
 }
 
 #endif

@@ -55,9 +55,10 @@ enum {
     CYCLES_OF_ROW = 10000
 };
 
-static const struct parameters parameters = {.profile = 1, .apid = APID, .pool_words = POOL_WORDS, .entries = 16, .octets = 65536};
+static struct journal_writer journal = {
+    .with = {.profile = 1, .apid = APID, .pool_words = POOL_WORDS, .entries = 256, .octets = 65536}, .flight = 1, .cycles = 10, .file = -1};
 static struct ocp_engine engine = OCP_CLOSED, second = OCP_CLOSED;
-static uint64_t entries; /* that were released */
+static uint64_t entries; /* that the second engine did */
 static uint32_t cycle;
 static uint32_t completions; /* that drains reported */
 static uint8_t reports[OCP_DRAIN_REPORTS > OCP_REQUEST_REPORTS ? OCP_DRAIN_REPORTS : OCP_REQUEST_REPORTS];
@@ -213,7 +214,7 @@ static void drain(void)
 
 /* ---- the journal */
 
-/* Gives the journal's entries to the second engine, writes them to the file, and releases them. */
+/* Gives the new entries to the second engine. Every ten cycles they are written to the file and released. */
 static void hand_down(void)
 {
     static uint8_t entry[OCP_LONGEST_ENTRY], again[OCP_DRAIN_REPORTS];
@@ -224,7 +225,7 @@ static void hand_down(void)
         must(ocp_release(&second, 1), "ocp_release");
         entries++;
     }
-    if (!keep_journal(&engine))
+    if (!keep_journal(&journal, &engine))
         fail("the journal can't be written");
 }
 
@@ -330,12 +331,12 @@ int main(int words, char **word)
         return 2;
     }
     set_point = arguments[argument_count - 1];
-    must(open_engine(&engine, &parameters), "ocp_open");
-    must(open_engine(&second, &parameters), "ocp_open of the second engine");
-    if (words == 5 && !begin_journal(word[4], &parameters))
+    must(open_engine(&engine, &journal.with), "ocp_open");
+    must(open_engine(&second, &journal.with), "ocp_open of the second engine");
+    if (words == 5 && !begin_journal(&journal, word[4]))
         fail("the journal can't be written");
     run_cycles((uint32_t)cycles);
-    if (!end_journal(&engine))
+    if (!end_journal(&journal, &engine))
         fail("the journal can't be written");
     compare_engines();
     must(ocp_close(&engine), "ocp_close");

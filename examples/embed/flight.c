@@ -1,14 +1,16 @@
 /* A flight program: telecommand packets in on standard input, report packets out on standard output.
  *
- *   flight [MILLISECONDS [JOURNAL]]
+ *   flight [MILLISECONDS [JOURNAL [FLIGHT]]]
  *
  * Time goes by in cycles. In each one every running procedure does a round in its turn: instructions up to the end of a step,
  * or SLICE of them. Every CYCLES_OF_DRAIN cycles the completions that wait are reported. The time in reports is the number of
  * the cycle. A cycle is due every MILLISECONDS; with 0, the default, one follows each packet, and the same packets give the same
  * reports. Input is read before each cycle. If a cycle takes longer, those that were due meanwhile are skipped and counted.
  *
- * In each cycle, and if the journal is full, its entries are written to the file JOURNAL, if one is named, for the tools
- * `journal` and `replay`; then they are released. So the program flies on in constant memory.
+ * Every CYCLES_OF_BLOCK cycles, and if the journal is full, its entries are written to the file JOURNAL, if one is named, for the
+ * tools `journal` and `replay`; then they are released. So the program flies on in constant memory. If the file can't be written,
+ * a line says so, and the flight goes on while the engine has room for entries. FLIGHT is the number by which ground tells the
+ * journals of flights apart; it is the time of the start in nanoseconds, if left out.
  *
  * `parting.h` finds the packets in the input. After a second without an octet an unfinished one holds no whole one back.
  *
@@ -36,12 +38,14 @@
 enum {
     APID = 291,
     CYCLES_OF_DRAIN = 1, /* from drain to drain */
+    CYCLES_OF_BLOCK = 10, /* from block to block of the journal */
     QUIET = 1000,           /* milliseconds */
     LONGEST_PERIOD = 60000, /* milliseconds */
     FAILED = 3
 };
 
-static const struct parameters parameters = {.profile = 1, .apid = APID, .pool_words = 16, .entries = 4096, .octets = 262144};
+static struct journal_writer journal = {
+    .with = {.profile = 1, .apid = APID, .pool_words = 16, .entries = 4096, .octets = 262144}, .cycles = CYCLES_OF_BLOCK, .file = -1};
 static struct ocp_engine engine = OCP_CLOSED;
 static uint32_t cycle;
 static uint32_t drained; /* the cycle of the last drain */
@@ -60,11 +64,14 @@ static _Noreturn void end(const char *why)
     exit(FAILED);
 }
 
-/* Writes the journal's entries and releases them. */
-static void hand_down(void)
+/* Hands the journal down by a call that gives whether it could, and says when that changes. */
+static bool hand_down(bool (*keep)(struct journal_writer *, struct ocp_engine *))
 {
-    if (!keep_journal(&engine))
-        end("the journal can't be written");
+    static bool was_kept = true;
+    bool is_kept = keep(&journal, &engine);
+    if (is_kept != was_kept)
+        fprintf(stderr, "flight: cycle %lu: the journal %s\n", (unsigned long)cycle, is_kept ? "is written again" : "can't be written");
+    return was_kept = is_kept;
 }
 
 /* ---- reports out */
@@ -74,7 +81,7 @@ static void send_reports(size_t length)
     for (size_t at = 0; at < length;) {
         ssize_t sent = write(STDOUT_FILENO, reports + at, length - at);
         if (sent < 0 && errno != EINTR) {
-            hand_down();
+            hand_down(keep_journal_now);
             end("nobody reads the reports");
         }
         at += sent > 0 ? (size_t)sent : 0;
@@ -104,7 +111,8 @@ static void take(size_t length)
     const uint8_t *packet = input.octets + input.first;
     uint32_t status = ocp_request(&engine, cycle, packet, length, reports, sizeof reports, &written);
     if (status == OCP_JOURNAL_FULL) {
-        hand_down();
+        if (!hand_down(keep_journal_now))
+            end("the journal can't be written, and has no room");
         status = ocp_request(&engine, cycle, packet, length, reports, sizeof reports, &written);
     }
     if (status == OCP_DONE) {
@@ -138,7 +146,7 @@ static void give_rounds(void)
         uint32_t count, step;
         struct ocp_outcome last;
         if (ocp_round(&engine, id, SLICE, &count, &last, &step) != OCP_DONE)
-            end("a round is refused"); /* the journal had room for all rounds of a cycle */
+            end("a round is refused"); /* the journal can't be written for long: else it has room for all rounds of a cycle */
         if (last.kind == OCP_FAULTED)
             fprintf(stderr, "flight: cycle %lu: procedure %u faulted: %lu\n", (unsigned long)cycle, id, (unsigned long)last.fault);
     }
@@ -156,7 +164,7 @@ static void run_cycle(uint64_t count)
 {
     cycle += (uint32_t)count;
     skipped += count - 1;
-    hand_down();
+    hand_down(keep_journal);
     give_rounds();
     if (cycle - drained >= CYCLES_OF_DRAIN) {
         drained = cycle;
@@ -221,13 +229,17 @@ static void cycles_by_clock(uint64_t period)
 int main(int words, char **word)
 {
     uint64_t period = 0;
-    if (words > 3 || (words > 1 && !read_number(word[1], LONGEST_PERIOD, &period))) {
-        fprintf(stderr, "usage: flight [MILLISECONDS [JOURNAL]] < TELECOMMANDS > REPORTS\n");
+    struct timespec start;
+    clock_gettime(CLOCK_REALTIME, &start);
+    journal.flight = (uint64_t)start.tv_sec * 1000000000 + (uint64_t)start.tv_nsec;
+    if (words > 4 || (words > 1 && !read_number(word[1], LONGEST_PERIOD, &period)) ||
+        (words > 3 && !read_number(word[3], UINT64_MAX - 1, &journal.flight))) {
+        fprintf(stderr, "usage: flight [MILLISECONDS [JOURNAL [FLIGHT]]] < TELECOMMANDS > REPORTS\n");
         return 2;
     }
-    if (ocp_version() < OCP_VERSION || ocp_version() >> 16 != OCP_VERSION >> 16 || open_engine(&engine, &parameters) != OCP_DONE)
+    if (ocp_version() < OCP_VERSION || ocp_version() >> 16 != OCP_VERSION >> 16 || open_engine(&engine, &journal.with) != OCP_DONE)
         end("no engine of this version, or no memory for it");
-    if (words == 3 && !begin_journal(word[2], &parameters))
+    if (words >= 3 && !begin_journal(&journal, word[2]))
         end("the journal can't be written");
     if (period == 0)
         cycles_by_packets();
@@ -237,7 +249,7 @@ int main(int words, char **word)
         broken++;
         fprintf(stderr, "flight: cycle %lu: the input ends within a packet\n", (unsigned long)cycle);
     }
-    if (!end_journal(&engine))
+    if (!end_journal(&journal, &engine))
         end("the journal can't be written");
     if (input.passed > 0)
         fprintf(stderr, "flight: %llu octets passed over\n", (unsigned long long)input.passed);
