@@ -14,7 +14,7 @@ use Rattle.ocp_world.specs.Answers.{Answers}
 use Rattle.ocp_world.specs.After.{Answer, Requested, Stepped, Commanded, after, is_accepted}
 use Rattle.ocp_world.specs.Replay.{replay_from}
 use Rattle.ocp_world.specs.Slice.{goes_on, next_outcome, slice_count, slice_last}
-use Rattle.ocp_world.specs.Mirror.Answering.{IsDebugFault, IsDiscard, IsUndue}
+use Rattle.ocp_world.specs.Mirror.Answering.{IsDiscard, IsUndue}
 use Rattle.ocp_world.specs.Mirror.State.{IsWorld}
 use Rattle.ocp_core.specs.Log.{Log, Entry, Steps, entry_for, events_of, full_answer, answer_with, with_entry, world_of}
 use Rattle.ocp_core.specs.Slice.{slice_with}
@@ -82,7 +82,7 @@ module _ (full : Bool) (w : World) (e : Event) where
   done_at a taken room is = is ∙ ap (λ b. cond b (full_answer e) answer) (sym room) ∙ ap (λ b. cond b (cond full (full_answer e) answer) answer) (sym taken)
 
   -- a debugger's command that is refused
-  pub fault_at : (fault : DebugFault) → IsDebugFault answer (Some fault) → Commanded (Err fault) ≡ answer_with full w e
+  pub fault_at : (fault : DebugFault) → answer ≡ Commanded (Err fault) → Commanded (Err fault) ≡ answer_with full w e
   fault_at fault is = refused_at (Commanded (Err fault)) (ap is_accepted is) (sym is)
 
   -- a request or a drain that is accepted, and finds room

@@ -17,14 +17,13 @@ pub use Rattle.ocp_world.specs.NextRunning.{IsNextRunning, Runs}
 pub use Rattle.ocp_world.specs.Replay.{answers, replay_from}
 pub use Rattle.ocp_core.specs.declared.answers.CommitOutcome.{CommitOutcome}
 pub use Rattle.ocp_core.specs.Log.{Log, Debugged, events_of, expand, empty_log, world_of, is_full}
-pub use Rattle.ocp_core.specs.Log.{with_entry, full_answer, answer_in, log_after}
+pub use Rattle.ocp_core.specs.Log.{with_entry, entry_for, full_answer, answer_in, log_after}
 pub use Rattle.ocp_core.specs.Slice.{slice_in, slice_log}
 pub use Rattle.ocp_core.specs.Round.{round_in, round_log}
 pub use Rattle.ocp_core.specs.Stores.{answer_at, event_store, slice_at, slice_store}
 pub use Rattle.ocp_core.specs.Stores.{round_at, round_store, MayAdd, MayAddReports}
 pub use Rattle.ocp_core.specs.Marks.{by_of, command_of, mark_in, entries_with_marks}
 pub use Rattle.ocp_core.specs.Journal.{event_of, entry_of, mark_of, entry_with_mark, answer_of}
-pub use Rattle.ocp_core.specs.Journal.{note_entry}
 pub use Rattle.ocp_core.specs.Receipts.{Enters, Grows, reports_in, entries_in, event_entries}
 pub use Rattle.ocp_core.specs.Receipts.{marked_drain, marked_request}
 pub use Rattle.ocp_core.specs.Receipts.{count_entries, slice_entries, commit_entries}

@@ -4,8 +4,6 @@ use Rattle.ocp_core.specs.declared.event.Entry as N
 use Rattle.ocp_core.specs.declared.event.Entry.TheVariants as entry
 use Rattle.ocp_core.specs.declared.event.Event as E
 use Rattle.ocp_core.specs.declared.event.Event.TheVariants as event
-use Rattle.ocp_core.specs.declared.event.Note as T
-use Rattle.ocp_core.specs.declared.event.Note.TheVariants as note
 use Rattle.ocp_core.specs.declared.answers.Answer as G
 use Rattle.ocp_core.specs.declared.answers.Answer.TheVariants as answer
 use Rattle.ocp_debug.specs.declared.command.Command.TheVariants as command
@@ -23,14 +21,6 @@ event_of (event.ClearBreak by id place) = Debug by id (command.ClearBreak place)
 event_of (event.Trace by id on) = Debug by id (command.SetTrace on)
 event_of (event.Drain by time) = Drain by time
 event_of (event.PutWord by index value) = Put by index value
-
--- the entry that a store is asked to have room for
-abbrev pub note_entry : T.Note → Entry
-note_entry (note.Request by time octets) = Asked by time octets.now
-note_entry (note.Steps by id count) = Steps by id count
-note_entry (note.Command by id command) = Debugged by id command
-note_entry (note.Drain by time) = Drained by time
-note_entry (note.PutWord by index value) = Wrote by index value
 
 module _ {A : Type 0} where
   abbrev pub entry_of : N.Entry A → Entry

@@ -11,7 +11,7 @@ ghost use Rattle.ocp_core.specs.Log as logs;
 ghost use Rattle.ocp_core.specs.Clauses.{MAX_POOL_WORDS, Answers, Commanded, Debug, Put, Stepped, Written, answer_at, most_events, round_at, slice_at, slice_store, event_store, world_of};
 
 use crate::{
-    Command, DebugFault, EngineFault, Note, PutFault, RequestStore, Round, StepOutcome, Store,
+    Command, DebugFault, EngineFault, Event, PutFault, RequestStore, Round, StepOutcome, Store,
 };
 use ocp_reports::PacketBuffer;
 use ocp_world::{Extent, State, discard_of};
@@ -44,7 +44,7 @@ pub fn instructions<S: Store, A: Allocator>(
     ensures within { result.count ≤ budget }
 {
     // Without room none is done, and only the refusal is looked for.
-    if store.is_full(&Note::Steps { by, id, count: 1 }) {
+    if store.is_full(&Event::Step { by, id }) {
         let place = state.table.place(id);
         let last = match state.table.running(id, place) {
             Ok(()) => StepOutcome::JournalFull,
@@ -106,13 +106,11 @@ pub fn command<S: Store, A: Allocator>(
         event_store S.log S.is_full S.with_entry store.old (Debug by id command) }
     ensures world { IsWorld (world_of (S.log store.new)) state.new }
 {
-    if let Some(fault) = state.fault_of(id, command) {
-        return Err(fault);
-    }
-    if store.is_full(&Note::Command { by, id, command }) {
+    let decided = state.decide(id, command)?;
+    if store.is_full(&Event::of_command(by, id, command)) {
         return Err(DebugFault::JournalFull);
     }
-    state.enact(id, command);
+    state.enact(id, decided);
     store.push_command(by, id, command);
     Ok(())
 }
@@ -135,14 +133,14 @@ pub fn put_word<S: Store, A: Allocator>(
     ensures world { IsWorld (world_of (S.log store.new)) state.new }
     ensures word { OnOk result (index < MAX_POOL_WORDS) }
 {
-    let Some(index) = state.word_index(index) else {
+    let Some(word) = state.word_index(index) else {
         return Err(PutFault::BadPoolIndex);
     };
-    if store.is_full(&Note::PutWord { by, index, value }) {
+    if store.is_full(&Event::PutWord { by, index, value }) {
         return Err(PutFault::JournalFull);
     }
-    state.put_word(index, value);
-    store.push_word(by, index, value);
+    state.put_word(word, value);
+    store.push_word(by, word, value);
     Ok(())
 }
 
@@ -173,7 +171,7 @@ pub fn request<S: RequestStore, A: Allocator>(
     if let Some(cause) = discard_of(&read) {
         return Err(EngineFault::Discarded(cause));
     }
-    if store.is_full(&Note::Request { by, time, octets }) {
+    if store.is_full(&Event::Request { by, time, octets }) {
         return Err(EngineFault::JournalFull);
     }
     let copy = S::keep_octets(keeper, octets)?;
@@ -207,7 +205,7 @@ pub fn drain<S: RequestStore, A: Allocator>(
     if !state.is_due() {
         return Err(EngineFault::NothingDue);
     }
-    if store.is_full(&Note::Drain { by, time }) {
+    if store.is_full(&Event::Drain { by, time }) {
         return Err(EngineFault::JournalFull);
     }
     let kept = state.report_due(keeper, time, packets)?;

@@ -5,7 +5,7 @@ ghost use Rattle.bpf_step.specs.Machine.{HasAddressesOf};
 ghost use Rattle.ocp_core.specs.Clauses.{Commits, Grows, commit_entries, get, TicketContents, ticket_at, work_after, world_of};
 
 use crate::ticket::Parts;
-use crate::{CommitOutcome, Engine, Note, StepOutcome, Store, Ticket, Work};
+use crate::{CommitOutcome, Engine, Event, StepOutcome, Store, Ticket, Work};
 use ocp_table::Snapshot;
 use ocp_world::instructions_done_alone_are_events;
 use std::alloc::{AllocError, Allocator};
@@ -79,7 +79,7 @@ impl<A: Allocator> Engine<A> {
         if !work.parts.base.is_at(procedure) {
             return CommitOutcome::Stale;
         }
-        if self.journal.is_full(&Note::Steps { by, id, count }) {
+        if self.journal.is_full(&Event::Step { by, id }) {
             return CommitOutcome::JournalFull;
         }
         self.state.settle(id, count, &mut work.parts.machine);

@@ -95,34 +95,20 @@ pub enum Entry<A: Allocator = Global> {
     },
 }
 
-/// An entry that a store is asked to have room for: its octets are borrowed, and it has no mark.
-#[derive(Clone, Copy)]
-pub enum Note<'a> {
-    Request {
-        by: u16,
-        time: u32,
-        octets: &'a [u8],
-    },
-    Steps {
-        by: u16,
-        id: u16,
-        count: u32,
-    },
-    /// A debugger's command to a procedure.
-    Command {
-        by: u16,
-        id: u16,
-        command: Command,
-    },
-    Drain {
-        by: u16,
-        time: u32,
-    },
-    PutWord {
-        by: u16,
-        index: u16,
-        value: u64,
-    },
+impl<'a> Event<'a> {
+    ghost use Rattle.std.specs.Prelude.{◌≡◌};
+    ghost use Rattle.ocp_core.specs.Clauses.{Debug, event_of};
+
+    /// A seat's debugger's command.
+    pub(crate) fn of_command(by: u16, id: u16, command: Command) -> Self
+        ensures { event_of result ≡ Debug by id command }
+    {
+        match command {
+            Command::SetBreak(place) => Event::SetBreak { by, id, place },
+            Command::ClearBreak(place) => Event::ClearBreak { by, id, place },
+            Command::SetTrace(on) => Event::Trace { by, id, on },
+        }
+    }
 }
 
 impl<A: Allocator> Entry<A> {

@@ -5,7 +5,7 @@ ghost use Rattle.ocp_core.specs.Clauses.{Log, MAX_APID, MAX_CAPACITY, MAX_POOL_W
 ghost use Rattle.ocp_core.specs.Mirror.Codes.{log_code};
 ghost use Rattle.ocp_core.specs.Mirror.Kept.{log_of, IsKept};
 
-use crate::{Command, Entry, Heap, Note, Octets, Reports, RequestStore, StepOutcome, Store};
+use crate::{Command, Entry, Event, Heap, Octets, Reports, RequestStore, StepOutcome, Store};
 use ocp_profile::Profile;
 use ocp_reports::SharedReports;
 use space_packet::Apid;
@@ -156,7 +156,7 @@ impl<A: Allocator> Store for Journal<A> {
         self.events
     }
 
-    fn is_full(&self, _note: &Note<'_>) -> bool {
+    fn is_full(&self, _event: &Event<'_>) -> bool {
         let held = self.entries.len();
         held == self.capacity as usize
     }

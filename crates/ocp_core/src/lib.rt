@@ -20,7 +20,7 @@ mod ticket;
 
 pub use answers::{Answer, CommitOutcome, RunFault, RunRefusal};
 pub use engine::Engine;
-pub use event::{Entry, Event, Note};
+pub use event::{Entry, Event};
 pub use heap::Heap;
 pub use input::Input;
 pub use journal::Journal;

@@ -2,9 +2,9 @@
 
 ghost use Rattle.std.specs.Prelude.{◌≡◌, ◌≤◌, ℕ, Bool, true, List, Ok, IfOk, OnErr};
 ghost use Rattle.ocp_core.specs.Log as logs;
-ghost use Rattle.ocp_core.specs.Clauses.{MAX_APID, Commanded, MayAdd, MayAddReports, Stepped, Written, note_entry, world_of};
+ghost use Rattle.ocp_core.specs.Clauses.{MAX_APID, Commanded, MayAdd, MayAddReports, Stepped, Written, entry_for, event_of, world_of};
 
-use crate::{Command, Note, StepOutcome};
+use crate::{Command, Event, StepOutcome};
 use ocp_world::Keeps;
 use space_packet::Apid;
 use std::alloc::AllocError;
@@ -29,9 +29,10 @@ pub trait Store {
     fn events(&self) -> u64
         ensures { result ≡ (world_of (log self.now)).events };
 
-    /// Whether there is no room for an entry. For instructions it does not depend on their number.
-    fn is_full(&self, note: &Note<'_>) -> bool
-        ensures { result ≡ is_full self.now (note_entry note.now) };
+    /// Whether there is no room for the entry of an event. That of one instruction needs the room
+    /// of any number of them.
+    fn is_full(&self, event: &Event<'_>) -> bool
+        ensures { result ≡ is_full self.now (entry_for (event_of event.now)) };
 
     /// Adds the entry of instructions, all of them accepted, with the outcome of the last.
     fn push_steps(&mut self, by: u16, id: u16, count: u32, last: StepOutcome)

@@ -11,6 +11,7 @@ pub use Rattle.ocp_table.specs.Deciding.{effect_in, ExecutesStep}
 pub use Rattle.ocp_table.specs.Slices.{step_ended}
 pub use Rattle.ocp_debug.specs.Commands.{is_set, fault_on, command_result, table_by_command}
 pub use Rattle.ocp_debug.specs.Commands.{command_effect}
+pub use Rattle.ocp_debug.specs.Mirror.Settings.{table_by_setting, Decides}
 pub use Rattle.ocp_debug.specs.Mirror.Breakpoints.{rank}
 pub use Rattle.ocp_debug.specs.Traces.{last_traces, traces_by}
 pub use Rattle.ocp_debug.specs.declared.command.Command.{Command}

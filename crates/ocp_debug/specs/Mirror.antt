@@ -1,3 +1,4 @@
 pub mod Breakpoints
 pub mod Ring
+pub mod Settings
 pub mod Tracing

@@ -1,50 +1,77 @@
 //! A debugger's commands: which are refused, and what the others change.
-ghost use Rattle.std.specs.Prelude.{◌≡◌, None, Some, Ok, Err};
-ghost use Rattle.ocp_debug.specs.Clauses.{command_result, fault_on, get, table_by_command};
+ghost use Rattle.std.specs.Prelude.{◌≡◌, Some, Ok, Err, IfOk, IfErr};
+ghost use Rattle.ocp_debug.specs.Clauses.{Decides, command_result, fault_on, get, table_by_setting, table_by_command};
 
 use crate::breakpoints::{is_set, with_breakpoint, without_breakpoint};
 use crate::{Command, DebugFault, MAX_BREAKPOINTS};
-use ocp_table::Table;
+use arrayvec::ArrayVec;
+use ocp_table::{Place, Table};
 use std::alloc::Allocator;
 
-/// Decides why a command is refused. It is NotLoaded if no procedure has the id. Then a breakpoint
-/// is refused as NotAnInstruction, AlreadySet and BreaksFull, in this order, and a clearing as
-/// NotSet.
-pub fn fault_of<A: Allocator>(table: &Table<A>, id: u16, command: Command) -> Option<DebugFault>
-    ensures { result ≡ fault_on command (get table.now.records id) }
-{
-    let Some(record) = table.record(id) else {
-        return Some(DebugFault::NotLoaded);
-    };
-    let breakpoints = record.breakpoints.as_slice();
-    match command {
-        Command::SetBreak(place) if record.execution.program().line_at(place).is_none() => {
-            Some(DebugFault::NotAnInstruction)
-        }
-        Command::SetBreak(place) if is_set(place, breakpoints) => Some(DebugFault::AlreadySet),
-        Command::SetBreak(_) if breakpoints.len() >= MAX_BREAKPOINTS => {
-            Some(DebugFault::BreaksFull)
-        }
-        Command::ClearBreak(place) if !is_set(place, breakpoints) => Some(DebugFault::NotSet),
-        Command::SetBreak(_) | Command::ClearBreak(_) | Command::SetTrace(_) => None,
-    }
+/// What a command sets at its procedure.
+#[derive(Drop)]
+pub enum Setting {
+    /// These are its breakpoints.
+    Breakpoints(ArrayVec<u16, MAX_BREAKPOINTS>),
+    /// Whether each instruction leaves a trace record.
+    Traced(bool),
 }
 
-/// Does a command that is not refused.
-pub fn enact<A: Allocator>(table: &mut Table<A>, id: u16, command: Command)
-    requires { fault_on command (get table.old.records id) ≡ None }
-    ensures { table.new ≡ table_by_command command id table.old }
+/// What was decided of a command, and where its record was found.
+#[derive(Drop)]
+pub struct Decided {
+    pub setting: Setting,
+    pub(crate) place: Place,
+}
+
+/// Decides what a command sets, or why it is refused. It is NotLoaded if no procedure has the id.
+/// Then a breakpoint is refused as NotAnInstruction, AlreadySet and BreaksFull, in this order, and
+/// a clearing as NotSet.
+pub fn decide<A: Allocator>(
+    table: &Table<A>,
+    id: u16,
+    command: Command,
+) -> Result<Decided, DebugFault>
+    ensures ok { IfOk result (λ decided. Decides table.now id command decided.setting) }
+    ensures err { IfErr result (λ fault. fault_on command (get table.now.records id) ≡ Some fault) }
 {
-    let Some(record) = table.record(id) else {
-        return;
+    let found = table.place(id);
+    let Some(record) = table.record_at(id, found) else {
+        return Err(DebugFault::NotLoaded);
     };
     let breakpoints = record.breakpoints.as_slice();
-    let places = match command {
-        Command::SetBreak(place) => with_breakpoint(place, breakpoints),
-        Command::ClearBreak(place) => without_breakpoint(place, breakpoints),
-        Command::SetTrace(on) => return table.set_traced(id, on),
+    let setting = match command {
+        Command::SetBreak(place) if record.execution.program().line_at(place).is_none() => {
+            return Err(DebugFault::NotAnInstruction);
+        }
+        Command::SetBreak(place) if is_set(place, breakpoints) => {
+            return Err(DebugFault::AlreadySet);
+        }
+        Command::SetBreak(_) if breakpoints.len() >= MAX_BREAKPOINTS => {
+            return Err(DebugFault::BreaksFull);
+        }
+        Command::ClearBreak(place) if !is_set(place, breakpoints) => {
+            return Err(DebugFault::NotSet);
+        }
+        Command::SetBreak(place) => Setting::Breakpoints(with_breakpoint(place, breakpoints)),
+        Command::ClearBreak(place) => Setting::Breakpoints(without_breakpoint(place, breakpoints)),
+        Command::SetTrace(on) => Setting::Traced(on),
     };
-    table.set_breakpoints(id, places);
+    Ok(Decided {
+        setting,
+        place: found,
+    })
+}
+
+/// Sets what was decided. If no procedure has this id, nothing changes.
+pub fn enact<A: Allocator>(table: &mut Table<A>, id: u16, decided: Decided)
+    ensures { table.new ≡ table_by_setting decided.setting id table.old }
+{
+    let Decided { setting, place } = decided;
+    match setting {
+        Setting::Breakpoints(places) => table.set_breakpoints(id, place, places),
+        Setting::Traced(on) => table.set_traced(id, place, on),
+    }
 }
 
 /// Does a command. If it is refused, nothing changes.
@@ -56,10 +83,8 @@ pub fn apply<A: Allocator>(
     ensures answer { result ≡ command_result command id table.old.records }
     ensures table { table.new ≡ table_by_command command id table.old }
 {
-    if let Some(fault) = fault_of(table, id, command) {
-        return Err(fault);
-    }
-    enact(table, id, command);
+    let decided = decide(table, id, command)?;
+    enact(table, id, decided);
     Ok(())
 }
 

@@ -14,7 +14,7 @@ mod texts;
 mod trace;
 
 pub use command::{Command, DebugFault};
-pub use commands::{apply, clear_break, enact, fault_of, set_break, set_trace};
+pub use commands::{Decided, Setting, apply, clear_break, decide, enact, set_break, set_trace};
 pub use ocp_table::{MAX_BREAKPOINTS, StepOutcome, View};
 pub use reading::{memory, view};
 pub use ring::TraceRing;

@@ -10,5 +10,5 @@ mod store;
 
 pub use faults::{EntryFault, ReleaseFault};
 pub use flight::Flight;
-pub use ocp_core::{Command, DebugFault, EngineFault, Note, PutFault, Round, Slice, StepOutcome};
+pub use ocp_core::{Command, DebugFault, EngineFault, PutFault, Round, Slice, StepOutcome};
 pub use store::{BoundedStore, MAX_OCTETS, MOST_EVENTS, Room};

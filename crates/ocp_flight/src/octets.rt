@@ -2,10 +2,11 @@
 
 ghost use Rattle.std.specs.Prelude.{◌≡◌, ◌∷◌, ◌++◌, length};
 ghost use Rattle.byteorder.specs.Endian.{big_bytes};
-ghost use Rattle.ocp_core.specs.Journal.{note_entry};
+ghost use Rattle.ocp_core.specs.Log.{entry_for};
+ghost use Rattle.ocp_core.specs.Journal.{event_of};
 ghost use Rattle.ocp_flight.specs.Entries.{IsCommandInRange, command_octets, entry_octets};
 
-use ocp_core::{Command, Note};
+use ocp_core::{Command, Event};
 
 /// The fields of a request before its packet, or of a drain.
 pub(crate) fn time_fields(kind: u8, by: u16, time: u32) -> [u8; 7]
@@ -62,15 +63,15 @@ pub(crate) fn word_fields(by: u16, index: u16, value: u64) -> [u8; 13]
     ]
 }
 
-/// The number of octets of an entry.
-pub(crate) fn length_of(note: &Note<'_>) -> usize
-    ensures { result ≡ length (entry_octets (note_entry note.now)) }
+/// The number of octets of an event's entry.
+pub(crate) fn length_of(event: &Event<'_>) -> usize
+    ensures { result ≡ length (entry_octets (entry_for (event_of event.now))) }
 {
-    match note {
-        Note::Request { octets, .. } => 7 + octets.len(),
-        Note::Steps { .. } => 9,
-        Note::Command { .. } => 7,
-        Note::Drain { .. } => 7,
-        Note::PutWord { .. } => 13,
+    match event {
+        Event::Request { octets, .. } => 7 + octets.len(),
+        Event::Step { .. } => 9,
+        Event::SetBreak { .. } | Event::ClearBreak { .. } | Event::Trace { .. } => 7,
+        Event::Drain { .. } => 7,
+        Event::PutWord { .. } => 13,
     }
 }

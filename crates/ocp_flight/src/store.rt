@@ -8,7 +8,7 @@ ghost use Rattle.ocp_flight.specs.Mirror.Kept.{MayEnter};
 
 use crate::octets::{command_fields, length_of, steps_fields, time_fields, word_fields};
 use crate::{EntryFault, ReleaseFault};
-use ocp_core::{Command, Note, RequestStore, StepOutcome, Store};
+use ocp_core::{Command, Event, RequestStore, StepOutcome, Store};
 use ocp_profile::Profile;
 use ocp_tape::{History, Tape};
 use ocp_world::Nothing;
@@ -192,8 +192,8 @@ impl<A: Allocator> Store for BoundedStore<A> {
         self.events
     }
 
-    fn is_full(&self, note: &Note<'_>) -> bool {
-        !self.tape.has_room(length_of(note))
+    fn is_full(&self, event: &Event<'_>) -> bool {
+        !self.tape.has_room(length_of(event))
     }
 
     fn push_steps(&mut self, by: u16, id: u16, count: u32, _last: StepOutcome) {

@@ -1,6 +1,6 @@
 -- Which events are refused, and that a refused one leaves the world.
 use Rattle.std.proofs.Common.{◌≡◌, ℕ, Bool, true, false, ◌+◌, cond, List, [], ◌∷◌, ◌++◌, length, Option, Some, None, refl, sym, ap, subst, ◌∙◌}
-use Rattle.std.specs.Prelude.{Result, Ok, Err, is_some, not, nat_le, nat_lt}
+use Rattle.std.specs.Prelude.{Result, Ok, Err, IfOk, IfErr, is_some, not, nat_le, nat_lt}
 use Rattle.std.proofs.lemmas.List.{append-nil}
 use Rattle.pus_fields.specs.declared.fault.Discard.{Discard}
 use Rattle.pus_fields.specs.declared.fault.TcFault.{TcFault}
@@ -18,7 +18,7 @@ use Rattle.ocp_table.specs.declared.answers.InstructionOutcome.{InstructionOutco
 use Rattle.ocp_table.specs.declared.answers.InstructionOutcome.TheVariants as did
 use Rattle.ocp_table.specs.declared.answers.StepOutcome.{StepOutcome}
 use Rattle.ocp_table.specs.declared.answers.StepOutcome.TheVariants as S
-use Rattle.ocp_table.specs.Records.{Rec, Records}
+use Rattle.ocp_table.specs.Records.{Rec, Records, Procedures}
 use Rattle.ocp_table.specs.Effects.{Loaded, Unloaded, Changed, Kept, Drained, WordPut, Started, Stepped as Instructed, Unasked, Failed, step_outcome, failure_of, refusal_of}
 use Rattle.ocp_table.specs.Effects as table
 use Rattle.ocp_table.specs.RequestTable as directive
@@ -32,6 +32,8 @@ use Rattle.ocp_debug.specs.declared.command.Command.{Command as DebugCommand}
 use Rattle.ocp_debug.specs.declared.command.Command.TheVariants.{SetBreak, ClearBreak, SetTrace}
 use Rattle.ocp_debug.specs.declared.command.DebugFault.{DebugFault}
 use Rattle.ocp_debug.specs.declared.command.DebugFault.TheVariants as debug
+use Rattle.ocp_debug.specs.declared.commands.Decided.{Decided}
+use Rattle.ocp_debug.specs.Mirror.Settings.{Decides}
 use Rattle.ocp_debug.specs.Commands.{is_set, fault_on, effect_by as debug_effect_by, result_of}
 use Rattle.ocp_reports.specs.declared.origin.Origin.{Origin}
 use Rattle.ocp_reports.specs.Origin.{origin_of}
@@ -44,7 +46,7 @@ use Rattle.ocp_world.specs.Puts.{put_effect_if}
 use Rattle.ocp_world.specs.declared.answers.EngineFault.TheVariants as engine
 use Rattle.ocp_world.specs.declared.answers.PutFault.TheVariants as put
 use Rattle.ocp_world.specs.After.{Answer, Requested, Stepped, Commanded, Written, after, world_after, answer_by, is_accepted}
-use Rattle.ocp_world.specs.Mirror.Answering.{discard_of, IsDiscard, IsRefusal, IsDebugFault, IsUndue}
+use Rattle.ocp_world.specs.Mirror.Answering.{discard_of, IsDiscard, IsRefusal, IsCommanded, IsUndue}
 
 true_false : true ≡ false → ⊥
 true_false e = cc
@@ -135,15 +137,13 @@ kept_debug : (fault : Option DebugFault) (command : DebugCommand) (id : ℕ) (w 
 kept_debug None command id w h = absurd (true_false h)
 kept_debug (Some fault) command id w h = untouched w
 
-debug_decided : (fault : Option DebugFault) → IsDebugFault (Commanded (result_of fault)) fault
-debug_decided None = refl
-debug_decided (Some fault) = refl
+debug_answer : (fault : Option DebugFault) (command : DebugCommand) (id : ℕ) (m : Records) (w : World) (by : ℕ) → m ≡ w.records → fault_on command (get m id) ≡ fault → (after w (Debug by id command)).answer ≡ Commanded (result_of fault)
+debug_answer fault command id m w by same is = ap (λ n. Commanded (result_of (fault_on command (get n id)))) (sym same) ∙ ap (λ o. Commanded (result_of o)) is
 
--- a command is refused for the fault that was found, or it is accepted
-pub debug_fault : (found : Option DebugFault) (command : DebugCommand) (id : ℕ) (m : Records) (w : World) (by : ℕ) → m ≡ w.records → found ≡ fault_on command (get m id) → IsDebugFault (after w (Debug by id command)).answer found
-debug_fault found command id m w by same is =
-    let here : found ≡ fault_on command (get w.records id) = is ∙ ap (λ n. fault_on command (get n id)) same in
-    subst (λ o. IsDebugFault (after w (Debug by id command)).answer o) (sym here) (debug_decided (fault_on command (get w.records id)))
+-- a command is refused for the fault that was found, or it is done
+pub debug_answered : (decided : Result Decided DebugFault) (command : DebugCommand) (id : ℕ) (t : Procedures) (w : World) (by : ℕ) → t.records ≡ w.records → IfOk decided (λ (d : Decided). Decides t id command d.setting) → IfErr decided (λ fault. fault_on command (get t.records id) ≡ Some fault) → IsCommanded (after w (Debug by id command)).answer decided
+debug_answered (Ok d) command id t w by same ok err = debug_answer None command id t.records w by same ok.fault
+debug_answered (Err fault) command id t w by same ok err = debug_answer (Some fault) command id t.records w by same err
 
 -- ---- a drain
 

@@ -9,14 +9,14 @@ pub use Rattle.ocp_table.specs.Records.{Rec}
 pub use Rattle.ocp_table.specs.Effects.{Kept, Unasked, Failed}
 pub use Rattle.ocp_table.specs.Shown.{directive_of, HasFewArguments}
 pub use Rattle.ocp_debug.specs.declared.command.Command.{Command}
-pub use Rattle.ocp_debug.specs.Commands.{fault_on}
+pub use Rattle.ocp_debug.specs.Mirror.Settings.{Decides}
 pub use Rattle.ocp_reports.specs.Reports.{reports_of}
 pub use Rattle.ocp_world.specs.declared.answers.EngineFault.TheVariants.{Memory, JournalFull}
 pub use Rattle.ocp_world.specs.World.{World, Request, Drain, Event, Step, Debug, Put, opening}
 pub use Rattle.ocp_world.specs.After.{after, effect_of, Requested, Stepped, Commanded, Written}
 pub use Rattle.ocp_world.specs.After.{is_accepted, is_done}
 pub use Rattle.ocp_world.specs.Mirror.Answering.{discard_of, IsDiscard, IsUndue}
-pub use Rattle.ocp_world.specs.Mirror.Answering.{IsDebugFault, IsPutAt}
+pub use Rattle.ocp_world.specs.Mirror.Answering.{IsCommanded, IsPutAt}
 pub use Rattle.ocp_world.specs.Mirror.State.{IsWorld, DoesIn, Does, with_packets}
 pub use Rattle.ocp_world.specs.Replay.{replay_from, answers}
 pub use Rattle.ocp_world.specs.Laws.{may_change_machine, IsAppended}

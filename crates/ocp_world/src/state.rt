@@ -1,14 +1,14 @@
 //! What the engine keeps of its world.
 
-ghost use Rattle.std.specs.Prelude.{◌≡◌, ◌≤◌, ◌<◌, ℕ, List, true, false, None, Ok, Err, IfOk, IfSome, length};
-ghost use Rattle.ocp_world.specs.Clauses.{Commanded, Debug, Does, DoesIn, HasFewArguments, IsDebugFault, IsPutAt, IsWorld, Kept, Put, Request as Asked, Sends, Step, Stepped, Unasked, World, after, command_effect, directive_effect, directive_of, effect_of, fault_on, get, has_no_place, opening, option_to_list, reports_of, step_ended, telecommand_of, with_packets};
+ghost use Rattle.std.specs.Prelude.{◌≡◌, ◌≤◌, ◌<◌, ℕ, List, true, false, Err, IfOk, IfSome, length};
+ghost use Rattle.ocp_world.specs.Clauses.{Commanded, Debug, Decides, Does, DoesIn, HasFewArguments, IsCommanded, IsPutAt, IsWorld, Kept, Put, Request as Asked, Sends, Step, Stepped, Unasked, World, after, command_effect, directive_effect, directive_of, effect_of, has_no_place, opening, option_to_list, reports_of, step_ended, telecommand_of, with_packets};
 ghost use Rattle.ocp_table.specs.RequestTable as directive;
 ghost use Rattle.ocp_world.specs.declared.answers.EngineFault.TheVariants as engine;
 
 use crate::{EngineFault, Keeps};
 use obcp_messages::{Report, Request, StatusRows, read_request};
 use obcp_types::{AcceptanceFailure, PendingOrigin};
-use ocp_debug::{Command, DebugFault, TraceRing};
+use ocp_debug::{Command, DebugFault, Decided, TraceRing};
 use ocp_pool::{MAX_POOL_WORDS, Pool};
 use ocp_profile::Profile;
 use ocp_reports::{Origin, PacketBuffer, Sender, count_after};
@@ -41,24 +41,23 @@ impl<A: Allocator> State<A> {
         ocp_debug::instruction(&mut self.table, id, place, &mut self.pool, &mut self.ring)
     }
 
-    /// Why a debugger's command is refused, if it is.
-    pub fn fault_of(&self, id: u16, command: Command) -> Option<DebugFault>
-        ensures value { result ≡ fault_on command (get self.now.table.records id) }
+    /// Decides what a debugger's command sets, or why it is refused.
+    pub fn decide(&self, id: u16, command: Command) -> Result<Decided, DebugFault>
+        ensures ok { IfOk result (λ decided.
+            Decides self.now.table id command decided.setting) }
         ensures answer { (w : World) (by : ℕ) → IsWorld w self.now →
-            IsDebugFault (after w (Debug by id command)).answer result }
+            IsCommanded (after w (Debug by id command)).answer result }
     {
-        ocp_debug::fault_of(&self.table, id, command)
+        ocp_debug::decide(&self.table, id, command)
     }
 
-    /// Does a debugger's command that is not refused.
-    pub fn enact(&mut self, id: u16, command: Command)
-        requires { fault_on command (get self.old.table.records id) ≡ None }
-        ensures world { (w : World) (by : ℕ) → IsWorld w self.old →
+    /// Sets what was decided of a debugger's command.
+    pub fn enact(&mut self, id: u16, decided: Decided)
+        ensures { (w : World) (by : ℕ) (command : Command) → IsWorld w self.old →
+            Decides self.old.table id command decided.setting →
             IsWorld (after w (Debug by id command)).world self.new }
-        ensures answer { (w : World) (by : ℕ) → IsWorld w self.old →
-            Commanded (Ok tt) ≡ (after w (Debug by id command)).answer }
     {
-        ocp_debug::enact(&mut self.table, id, command);
+        ocp_debug::enact(&mut self.table, id, decided);
     }
 
     /// Does a debugger's command.

@@ -26,10 +26,10 @@ abbrev pub IsRefusal : Answer → Option StepOutcome → Type 0
 IsRefusal answer None = is_accepted answer ≡ true
 IsRefusal answer (Some outcome) = (is_accepted answer ≡ false) × (Stepped outcome ≡ answer)
 
--- a debugger's command is refused with this fault, or it is accepted
-abbrev pub IsDebugFault : Answer → Option DebugFault → Type 0
-IsDebugFault answer None = is_accepted answer ≡ true
-IsDebugFault answer (Some fault) = answer ≡ Commanded (Err fault)
+-- a debugger's command is done, or it is refused with this fault
+abbrev pub IsCommanded : {T : Type 0} → Answer → Result T DebugFault → Type 0
+IsCommanded answer (Ok decided) = answer ≡ Commanded (Ok tt)
+IsCommanded answer (Err fault) = answer ≡ Commanded (Err fault)
 
 -- a drain is refused since nothing is due, or it is accepted
 abbrev pub IsUndue : Answer → Bool → Type 0

@@ -22,15 +22,13 @@ pub returns-then-is_full-clause-answer : goal.returns-then-is_full-clause-answer
 returns-then-is_full-clause-answer g c =
     let w : World = world_of (g.S.Store.log c.args.store.now) in
     let told = c.in-Some.ensures.answer w c.args.by c.args.value c.requires.stands in
-    let no_room = ap (λ i. g.S.Store.is_full c.args.store.now (Wrote c.args.by i c.args.value)) (sym c.in-Some.ensures.word.0) ∙ sym c.is_full.ensures ∙ c.if-is_full.true in
-    full_at _ w (Put c.args.by c.args.index c.args.value) (ap is_accepted told) no_room
+    full_at _ w (Put c.args.by c.args.index c.args.value) (ap is_accepted told) (sym c.is_full.ensures ∙ c.if-is_full.true)
 
 pub returns-then-is_full-clause-store : goal.returns-then-is_full-clause-store
 returns-then-is_full-clause-store g c =
     let w : World = world_of (g.S.Store.log c.args.store.now) in
     let told = c.in-Some.ensures.answer w c.args.by c.args.value c.requires.stands in
-    let no_room = ap (λ i. g.S.Store.is_full c.args.store.now (Wrote c.args.by i c.args.value)) (sym c.in-Some.ensures.word.0) ∙ sym c.is_full.ensures ∙ c.if-is_full.true in
-    full_store g.S.Store.log g.S.Store.is_full g.S.Store.with_entry c.args.store.now (Put c.args.by c.args.index c.args.value) (ap is_accepted told) no_room
+    full_store g.S.Store.log g.S.Store.is_full g.S.Store.with_entry c.args.store.now (Put c.args.by c.args.index c.args.value) (ap is_accepted told) (sym c.is_full.ensures ∙ c.if-is_full.true)
 
 pub push_word-requires : goal.push_word-requires
 push_word-requires g c =
@@ -38,8 +36,8 @@ push_word-requires g c =
     let told = c.in-Some.ensures.answer w c.args.by c.args.value c.requires.stands in
     let same = sym c.in-Some.ensures.word.0 in
     record {
-      room = sym c.is_full.ensures ∙ c.if-is_full.false;
-      accepted = counted w (Put c.args.by c.in-Some.index c.args.value) (subst (λ i. is_accepted (after w (Put c.args.by i c.args.value)).answer ≡ true) same (ap is_accepted told));
+      room = ap (λ i. g.S.Store.is_full c.args.store.now (Wrote c.args.by i c.args.value)) c.in-Some.ensures.word.0 ∙ sym c.is_full.ensures ∙ c.if-is_full.false;
+      accepted = counted w (Put c.args.by c.in-Some.word c.args.value) (subst (λ i. is_accepted (after w (Put c.args.by i c.args.value)).answer ≡ true) same (ap is_accepted told));
       mark = subst (λ i. Written (Ok tt) ≡ (after w (Put c.args.by i c.args.value)).answer) same (sym told);
     }
 
@@ -47,15 +45,13 @@ pub returns-clause-answer : goal.returns-clause-answer
 returns-clause-answer g c =
     let w : World = world_of (g.S.Store.log c.args.store.now) in
     let told = c.in-Some.ensures.answer w c.args.by c.args.value c.requires.stands in
-    let room = ap (λ i. g.S.Store.is_full c.args.store.now (Wrote c.args.by i c.args.value)) (sym c.in-Some.ensures.word.0) ∙ sym c.is_full.ensures ∙ c.if-is_full.false in
-    done_at _ w (Put c.args.by c.args.index c.args.value) (Written (Ok tt)) (ap is_accepted told) room (sym told)
+    done_at _ w (Put c.args.by c.args.index c.args.value) (Written (Ok tt)) (ap is_accepted told) (sym c.is_full.ensures ∙ c.if-is_full.false) (sym told)
 
 pub returns-clause-store : goal.returns-clause-store
 returns-clause-store g c =
     let w : World = world_of (g.S.Store.log c.args.store.now) in
     let told = c.in-Some.ensures.answer w c.args.by c.args.value c.requires.stands in
-    let room = ap (λ i. g.S.Store.is_full c.args.store.now (Wrote c.args.by i c.args.value)) (sym c.in-Some.ensures.word.0) ∙ sym c.is_full.ensures ∙ c.if-is_full.false in
-    done_store g.S.Store.log g.S.Store.is_full g.S.Store.with_entry c.args.store.now (Put c.args.by c.args.index c.args.value) _ (ap is_accepted told) room
+    done_store g.S.Store.log g.S.Store.is_full g.S.Store.with_entry c.args.store.now (Put c.args.by c.args.index c.args.value) _ (ap is_accepted told) (sym c.is_full.ensures ∙ c.if-is_full.false)
     (c.push_word.ensures ∙ ap (λ i. g.S.Store.with_entry c.args.store.now (Wrote c.args.by i c.args.value)) c.in-Some.ensures.word.0)
 
 pub returns-clause-world : goal.returns-clause-world
