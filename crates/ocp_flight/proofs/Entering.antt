@@ -2,10 +2,10 @@
 use Rattle.std.proofs.Common.{◌≡◌, ◌≤◌, ◌<◌, ◌+◌, ◌^◌, ℕ, true, false, List, [], ◌∷◌, ◌++◌, map, length, drop, sym, ap, subst, ◌∙◌, arith, length-append}
 use Rattle.std.proofs.lemmas.List.{map-append, drop-append-le, drop-drop, length-drop}
 use Rattle.ocp_profile.specs.declared.limits.TheConstants.{MAX_APID, MAX_CAPACITY}
-use Rattle.ocp_tape.specs.Pieces.{TapeContents}
-use Rattle.ocp_tape.specs.Pieces as tapes
-use Rattle.ocp_tape.proofs.Cut.{most-of-room}
-use Rattle.ocp_tape.specs.declared.history.History.{History}
+use Rattle.ocp_flight.specs.Pieces.{TapeContents}
+use Rattle.ocp_flight.specs.Pieces as tapes
+use Rattle.ocp_flight.proofs.Cut.{most-of-room}
+use Rattle.ocp_flight.specs.declared.history.History.{History}
 use Rattle.ocp_core.specs.Log.{Entry, expand, events_of, world_of}
 use Rattle.ocp_core.specs.Mirror.Counted.{AreCounted}
 use Rattle.ocp_core.proofs.Replays.{length-expand-with_entry}

@@ -1,3 +1,7 @@
+pub mod Cut
+pub mod Places
+pub mod Pushing
+pub mod Insides
 pub mod ReadBack
 pub mod Storing
 pub mod Entering

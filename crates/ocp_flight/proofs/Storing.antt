@@ -2,8 +2,8 @@
 use Rattle.std.proofs.Common.{◌≡◌, ◌+◌, ℕ, Bool, true, false, cond, ◌++◌, map, length, take, drop, refl, sym, ap, ◌∙◌, arith}
 use Rattle.std.specs.Prelude.{◌^◌, nat_lt, nat_le, not}
 use Rattle.std.proofs.lemmas.List.{drop-map, length-map, length-drop, take-append-drop}
-use Rattle.ocp_tape.specs.Pieces.{TapeContents, extent}
-use Rattle.ocp_tape.specs.Pieces as tapes
+use Rattle.ocp_flight.specs.Pieces.{TapeContents, extent}
+use Rattle.ocp_flight.specs.Pieces as tapes
 use Rattle.ocp_world.specs.Replay.{replay}
 use Rattle.ocp_core.specs.Log.{Log, Entry, expand, world_of}
 use Rattle.ocp_flight.specs.Entries.{entry_octets, IsEntryInRange}

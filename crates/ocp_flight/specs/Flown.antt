@@ -2,7 +2,7 @@
 -- was opened, and how many of the oldest were released. The others are held.
 use Rattle.std.specs.Prelude.{ℕ, ◌+◌, ◌-◌, ◌^◌, nat_lt, nat_le, Bool, false, not, if◌then◌else◌, List, ◌++◌, map, drop, length, Option, None, Some, Result, Ok, Err, slice_get}
 use Rattle.ocp_profile.specs.declared.profile.Profile.{Profile}
-use Rattle.ocp_tape.specs.Pieces.{extent}
+use Rattle.ocp_flight.specs.Pieces.{extent}
 use Rattle.ocp_core.specs.Log as logs
 use Rattle.ocp_core.specs.Log.{Log, Entry, empty_log, expand}
 use Rattle.ocp_flight.specs.Entries.{entry_octets}

@@ -1,3 +1,4 @@
+pub mod Pieces
 pub mod Entries
 pub mod Flown
 pub mod Calls

@@ -4,9 +4,11 @@
 
 mod faults;
 mod flight;
+mod history;
 pub mod laws;
 mod octets;
 mod store;
+mod tape;
 
 pub use faults::{EntryFault, ReleaseFault};
 pub use flight::Flight;

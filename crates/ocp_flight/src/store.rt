@@ -6,11 +6,12 @@ ghost use Rattle.ocp_core.specs.Clauses.{MAX_APID, MAX_CAPACITY, expand, world_o
 ghost use Rattle.ocp_flight.specs.Flown.{entry_answer, entry_written, held_count, opened_flown, release_after, release_answer, room, with_entry};
 ghost use Rattle.ocp_flight.specs.Mirror.Kept.{MayEnter};
 
+use crate::history::History;
 use crate::octets::{command_fields, length_of, steps_fields, time_fields, word_fields};
+use crate::tape::Tape;
 use crate::{EntryFault, ReleaseFault};
 use ocp_core::{Command, Event, RequestStore, StepOutcome, Store};
 use ocp_profile::Profile;
-use ocp_tape::{History, Tape};
 use ocp_world::Nothing;
 use space_packet::Apid;
 use std::alloc::{AllocError, Allocator, Global};

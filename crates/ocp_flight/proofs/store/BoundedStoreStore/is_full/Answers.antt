@@ -1,6 +1,6 @@
 use Rattle.std.proofs.Common.{sym, ap, ◌∙◌}
 use Rattle.std.specs.Prelude.{not}
-use Rattle.ocp_tape.specs.Pieces as tapes
+use Rattle.ocp_flight.specs.Pieces as tapes
 use Rattle.ocp_core.specs.Log.{entry_for}
 use Rattle.ocp_core.specs.Journal.{event_of}
 use Rattle.ocp_flight.specs.Flown.{is_full}
