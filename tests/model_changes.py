@@ -4,19 +4,13 @@ A change is one of these: a number one up or down; another comparison, operator 
 word; a refusal or a statement left out; two refusals, or two neighbours of a list or of a call's operands, in the other order.
 """
 import ast
-import multiprocessing
-import os
-import random
-import resource
 import signal
 import sys
 import types
-from collections import Counter
 
 import profile_model
+from support import ROOT
 
-HERE = os.path.dirname(os.path.realpath(__file__))
-EXCUSES = f"{HERE}/model_excuses"
 OTHER = {
     ast.Lt: ast.LtE, ast.LtE: ast.Lt, ast.Gt: ast.GtE, ast.GtE: ast.Gt, ast.Eq: ast.NotEq, ast.NotEq: ast.Eq, ast.In: ast.NotIn, ast.NotIn: ast.In,
     ast.Is: ast.IsNot, ast.IsNot: ast.Is, ast.Add: ast.Sub, ast.Sub: ast.Add, ast.Mult: ast.Add, ast.FloorDiv: ast.Mod, ast.Mod: ast.FloorDiv,
@@ -26,8 +20,6 @@ OTHER = {
 SECONDS, TIMES = 1, 10
 # one that takes so long is not asked which functions it enters, and runs for each change that no quicker one shows
 LONG = 0.05
-# and one that takes more memory than that fails
-OCTETS = 4 * 2**30
 
 
 class Sources:
@@ -52,11 +44,7 @@ class Sources:
 
 
 def sources():
-    texts = {}
-    for name in profile_model.MODULES:
-        with open(f"{HERE}/profile_model/{name}.py") as file:
-            texts[name] = file.read()
-    return Sources(texts)
+    return Sources({name: (ROOT / f"tests/profile_model/{name}.py").read_text() for name in profile_model.MODULES})
 
 
 class Change:
@@ -187,15 +175,9 @@ def is_import_or_docstring(node):
 
 
 def excuses():
-    """For each change that shows nowhere, the reason. In the file a reason is above its changes, after `#`."""
-    reason, found = "", {}
-    with open(EXCUSES) as file:
-        for line in file.read().splitlines():
-            if line.startswith("# "):
-                reason = line[2:]
-            elif line:
-                found[line] = reason
-    return found
+    """The changes that show nowhere. In the file the reason is above them, after `#`."""
+    lines = (ROOT / "tests/model_excuses").read_text().splitlines()
+    return {line for line in lines if line and not line.startswith("#")}
 
 
 # ---- which cases run what
@@ -249,47 +231,17 @@ def is_noticed(model, cases):
         signal.setitimer(signal.ITIMER_VIRTUAL, 0)
 
 
-SOURCES = CHANGES = RUNS = None
+def changes(sources):
+    """Each change of each module."""
+    return [it for name, tree in sources.trees.items() for it in changes_of(name, tree)]
 
 
-def judge(at):
-    change = CHANGES[at]
-    resource.setrlimit(resource.RLIMIT_AS, (OCTETS, OCTETS))
+def shows(sources, runs, change):
+    """Whether some case shows a change."""
     back = change.make()
     try:
-        return at, is_noticed(SOURCES.model(change.module), RUNS.of(change))
+        return is_noticed(sources.model(change.module), runs.of(change))
     except Exception:  # a model that fails gives no output
-        return at, True
+        return True
     finally:
         back()
-
-
-def try_all(sources, cases, given):
-    """Makes each change, and prints those that no case shows; whether these are those that are excused."""
-    global SOURCES, CHANGES, RUNS
-    excused = excuses()
-    changes = [it for name, tree in sources.trees.items() for it in changes_of(name, tree)]
-    unknown = set(excused) - {it.key() for it in changes}
-    changes = [it for it in changes if not given.only or given.only in it.key()]
-    made = len(changes)
-    if given.sample:
-        changes = [it for it in changes if it.key() not in excused]
-        changes = random.Random(given.seed).sample(changes, min(given.sample, len(changes)))
-        print(f"{len(changes)} of {made} changes, seed {given.seed}")
-    SOURCES, CHANGES, RUNS = sources, changes, Runs(sources, cases)
-    counts, reasons = Counter(), Counter()
-    with multiprocessing.Pool(given.jobs) as pool:
-        for at, noticed in pool.imap_unordered(judge, range(len(changes)), 4):
-            change = changes[at]
-            reason = excused.get(change.key())
-            counts[noticed, reason is not None] += 1
-            if not noticed and reason:
-                reasons[reason] += 1
-            elif noticed == bool(reason):
-                print(f"{'excused, and noticed' if reason else 'not noticed'}: {change.key()}  (line {change.line})", flush=True)
-    for reason, count in reasons.items():
-        print(f"{count} excused: {reason}")
-    for key in sorted(unknown):
-        print(f"excused, and no change: {key}")
-    print(f"{len(changes)} changes, {counts[True, False] + counts[True, True]} noticed, {counts[False, True]} excused, {counts[False, False]} missed")
-    return not counts[False, False] and not counts[True, True] and not unknown

@@ -17,6 +17,9 @@ sys.dont_write_bytecode = True
 ROOT = Path(__file__).resolve().parent.parent
 sys.path.insert(0, str(ROOT / "tools"))
 PROGRAM = Path(os.environ.get("OCP_PROGRAM", ROOT / "crates/ocp/out/ocp")).resolve()
+# The programs of library calls, and of the calls of seats. `rt ci` leaves them here, and so does `rt run` in their folders.
+LIBRARY = Path(os.environ.get("OCP_LIBRARY", ROOT / "crates/lib_driver/out/lib_driver")).resolve()
+LOCK = Path(os.environ.get("OCP_LOCK", ROOT / "crates/lock_driver/out/lock_driver")).resolve()
 SECONDS = 60  # that a process may take, if its caller says nothing
 Word = Union[str, int, Path]
 
