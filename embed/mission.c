@@ -4,13 +4,14 @@
  *
  * In each cycle flight software writes the number of the cycle into word 0 and gives each running procedure a round. Procedure 7
  * adds word 0 to word 1 in each of its steps; procedure 8 adds 1 or 3 to word 2, by the image that is loaded. Ground suspends and
- * resumes procedure 8, unloads it and loads its other image, and asks for the status. Every PASS cycles the journal is written
- * to the file JOURNAL and released; the reports go to the file REPORTS. Once in each LONG_RUN cycles the link is down for so long
- * that the journal fills. Then every event is refused until the next pass, and nothing changes.
+ * resumes procedure 8, stops or aborts it, unloads it and loads its other image, and asks for the status. Every PASS cycles the
+ * journal is written to the file JOURNAL and released; the reports go to the file REPORTS. Once in each LONG_RUN cycles the link
+ * is down for so long that the journal fills. Then every event is refused until the next pass, and nothing changes.
  *
- * The program checks that no telecommand fails, that words 1 and 2 are the sums that it keeps itself, that no call between ocp_open
- * and ocp_close calls the heap, and that the resident set does not grow after the first half. It prints the number of events, the
- * views of both procedures and the pool, as `replay` does, and on standard error how many calls a full journal refused.
+ * The program checks that no telecommand fails, that an abort is done before the rounds of its cycle, that words 1 and 2 are the
+ * sums that it keeps itself, that no call between ocp_open and ocp_close calls the heap, and that the resident set does not grow
+ * after the first half. It prints the number of events, the views of both procedures and the pool, as `replay` does, and on
+ * standard error how many calls a full journal refused.
  *
  * Status: 0 done, 1 a check fails, and one line says which, 2 wrong words. */
 #include "ocp_engine.h"
@@ -174,6 +175,20 @@ static void start_counter(uint8_t adds)
     must_take(load(COUNTER, counter, sizeof counter) && send(ACTIVATE, COUNTER, zeros, 2));
 }
 
+/* Ends the counter: by a stop at the end of its step, every second time by an abort at once. */
+static void end_counter(void)
+{
+    struct ocp_view view;
+    uint64_t registers[11];
+    if (step == 1) {
+        must_take(send(STOP, COUNTER, zeros, 2));
+        return;
+    }
+    must_take(send(ABORT, COUNTER, zeros, 0));
+    if (ocp_view(&engine, COUNTER, &view, registers, 11) != OCP_DONE || view.status != OCP_INACTIVE)
+        fail("an abort is not done at once");
+}
+
 /* What ground sends in this cycle. */
 static void send_up(void)
 {
@@ -183,7 +198,7 @@ static void send_up(void)
     if (cycle % SUSPENSION == 450)
         must_take(send(RESUME, COUNTER, zeros, 0));
     if (of_reload == 9000)
-        must_take(send(STOP, COUNTER, zeros, 2));
+        end_counter();
     if (of_reload == 9002)
         must_take(send(UNLOAD, COUNTER, zeros, 0));
     if (of_reload == 9004)

@@ -7,7 +7,7 @@
 #include <stddef.h>
 #include <stdint.h>
 
-enum { LOAD = 1, UNLOAD, ACTIVATE, STOP, SUSPEND, RESUME, COMMUNICATE, STATUS }; /* the message subtypes */
+enum { LOAD = 1, UNLOAD, ACTIVATE, STOP, SUSPEND, RESUME, COMMUNICATE, STATUS, ABORT = 12 }; /* the message subtypes */
 enum { TELECOMMAND_HEAD = 11, TELECOMMAND_CONTROL = 2 };                         /* octets before the data, and after them */
 
 /* Makes a packet of data that are at `packet` + TELECOMMAND_HEAD. The flags ask for reports: 1 of acceptance, 2 of the start,
