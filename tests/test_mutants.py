@@ -326,7 +326,7 @@ class OfCommand(Repository):
 
     def setUp(self):
         super().setUp()
-        for path in (".ci/mutants", "tools/static_library"):
+        for path in (".ci/mutants", "tools/kit.py"):
             (self.top / path).parent.mkdir(exist_ok=True)
             shutil.copy(TOP / path, self.top / path)
         shutil.copytree(TOP / "tools/mutation", self.top / "tools/mutation")
