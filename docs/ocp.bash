@@ -7,15 +7,19 @@ _ocp() {
         bench) words='--port --program --help' ;;
         build) words='--cores --times --chain --help' ;;
         check) words='--profile --pool --help' ;;
+        dist) words='--to --help' ;;
+        install) words='--help' ;;
+        library) words='--target --cores --unproved --help' ;;
         list) words='--help' ;;
         live) words='--profile --apid --pool --journal --help' ;;
         run) words='--profile --apid --pool --journal --help' ;;
         test) words='--jobs --help' ;;
         try) words='asm check list run help --help --version' ;;
+        uninstall) words='--help' ;;
         help) words='asm check list run' ;;
         *) words='' ;;
     esac
-    [ "$COMP_CWORD" != 1 ] || words='asm check list run help bench build live test try --help --version'
+    [ "$COMP_CWORD" != 1 ] || words='asm check list run help bench build dist install library live test try uninstall --help --version'
     mapfile -t COMPREPLY < <(compgen -W "$words" -- "${COMP_WORDS[COMP_CWORD]}")
 }
 complete -o default -F _ocp ocp ./ocp
