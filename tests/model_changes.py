@@ -12,8 +12,10 @@ import profile_model
 from support import ROOT
 
 OTHER = {
-    ast.Lt: ast.LtE, ast.LtE: ast.Lt, ast.Gt: ast.GtE, ast.GtE: ast.Gt, ast.Eq: ast.NotEq, ast.NotEq: ast.Eq, ast.In: ast.NotIn, ast.NotIn: ast.In,
-    ast.Is: ast.IsNot, ast.IsNot: ast.Is, ast.Add: ast.Sub, ast.Sub: ast.Add, ast.Mult: ast.Add, ast.FloorDiv: ast.Mod, ast.Mod: ast.FloorDiv,
+    ast.Lt: ast.LtE, ast.LtE: ast.Lt, ast.Gt: ast.GtE, ast.GtE: ast.Gt, ast.Eq: ast.NotEq, ast.NotEq: ast.Eq, ast.In: ast.NotIn,
+    ast.NotIn: ast.In,
+    ast.Is: ast.IsNot, ast.IsNot: ast.Is, ast.Add: ast.Sub, ast.Sub: ast.Add, ast.Mult: ast.Add, ast.FloorDiv: ast.Mod,
+    ast.Mod: ast.FloorDiv,
     ast.Pow: ast.Mult, ast.LShift: ast.RShift, ast.RShift: ast.LShift, ast.BitAnd: ast.BitOr, ast.BitOr: ast.BitAnd, ast.BitXor: ast.BitOr,
     ast.And: ast.Or, ast.Or: ast.And}
 # a case that takes so much longer than it did, in seconds of the processor, does not end
@@ -70,7 +72,8 @@ def is_refusal(statement):
 def exclude_each_other(first, second):
     """Whether two refusals ask whether one value is this or that."""
     tests = [it.test for it in (first, second)]
-    return all(isinstance(it, ast.Compare) and isinstance(it.ops[0], (ast.Eq, ast.In)) for it in tests) and ast.dump(tests[0].left) == ast.dump(tests[1].left)
+    are_choices = all(isinstance(it, ast.Compare) and isinstance(it.ops[0], (ast.Eq, ast.In)) for it in tests)
+    return are_choices and ast.dump(tests[0].left) == ast.dump(tests[1].left)
 
 
 def head(statement):
@@ -142,7 +145,8 @@ def changes_of_body(body):
             yield at, 1, placed(body, at, nothing)
             if at + 1 < len(body) and is_refusal(body[at + 1]) and not exclude_each_other(statement, body[at + 1]):
                 yield at, 2, placed(body, at, body[at + 1], statement)
-        elif isinstance(statement, (ast.Assign, ast.AugAssign, ast.Raise)) or (isinstance(statement, ast.Expr) and not isinstance(statement.value, ast.Constant)):
+        elif (isinstance(statement, (ast.Assign, ast.AugAssign, ast.Raise))
+              or isinstance(statement, ast.Expr) and not isinstance(statement.value, ast.Constant)):
             yield at, 1, placed(body, at, nothing)
 
 
@@ -203,8 +207,10 @@ class Runs:
 
     def __init__(self, sources, cases):
         model = sources.model()
-        self.runs = [(case, functions_of(case, model) if case.seconds < LONG else None) for case in sorted(cases, key=lambda it: it.seconds)]
-        self.spans = {name: [(it.lineno, it.end_lineno) for it in ast.walk(tree) if isinstance(it, ast.FunctionDef)] for name, tree in sources.trees.items()}
+        self.runs = [(case, functions_of(case, model) if case.seconds < LONG else None)
+                     for case in sorted(cases, key=lambda it: it.seconds)]
+        self.spans = {name: [(it.lineno, it.end_lineno) for it in ast.walk(tree) if isinstance(it, ast.FunctionDef)]
+                      for name, tree in sources.trees.items()}
 
     def of(self, change):
         """The cases that enter the function of a change; all of them if it is in none."""

@@ -24,9 +24,8 @@ def first_line(path):
 
 
 def scripts(language, *endings):
-    """Those in a language, by their first line or ending. No script that .ci/run calls by itself, and no .ci/mutants yet."""
-    found = [name for name, first in files().items() if name.endswith(endings) or first.startswith("#!") and language in first]
-    return sorted(name for name in found if not re.fullmatch(r"tests/(?!run$)\w+|\.ci/mutants", name))
+    """Those in a language, by their first line or ending."""
+    return sorted(name for name, first in files().items() if name.endswith(endings) or first.startswith("#!") and language in first)
 
 
 class Lint(Case):

@@ -32,9 +32,7 @@ def section_of(part, page):
 
 
 def has_test(name):
-    """Whether there is this group of tests or this script, or whether a crate has this file of tests or this folder of cases."""
-    if name.startswith("tests/"):
-        return any((ROOT / path).is_file() for path in (name, name.replace("test_", "").removesuffix(".py")))
+    """Whether there is this file of tests or script, or whether a crate has this file of tests or this folder of cases."""
     crate, _, rest = name.partition("/")
     folder = ROOT / "crates" / crate
     return any(path.is_file() for path in (folder / f"src/{rest}.rt", ROOT / name)) or any((folder / "cases" / rest).glob("*.stdout"))
