@@ -55,6 +55,11 @@ def needs(*programs: str) -> Any:
     return unittest.skipIf(missing, f"no {' and no '.join(missing)}")
 
 
+def needs_built(program: Path) -> Any:
+    """Skips a test, or a class, if a driver of calls is not built: ./ocp build leaves them out."""
+    return unittest.skipUnless(program.is_file(), f"{program.name} is not built: tools/prove crates/{program.name}, or rt ci")
+
+
 class Case(unittest.TestCase):
     """A group of tests that run one after another; groups run side by side."""
 

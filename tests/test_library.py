@@ -1,7 +1,8 @@
 """The program of library calls on its cases, each folder of crates/lib_driver/cases, and its page beside its help."""
-from support import LIBRARY, ROOT, Case
+from support import LIBRARY, ROOT, Case, needs_built
 
 
+@needs_built(LIBRARY)
 class Library(Case):
     seconds = 5
 

@@ -20,7 +20,7 @@ import tempfile
 from chance import RUNS, SEED, Numbers, Parts, chance, constants, in_parts, scaled
 from profile_model.packets import ground_packet
 from slots import EXIT, SPIN, call, move, slot
-from support import LOCK, Case
+from support import LOCK, Case, needs_built
 
 SCRIPTS, BATCH = 2000, 50
 MOST_SEATS, MOST_LOADED, NUMBERS, MOST_ENTRIES = 64, 16, 65536, 1_000_000
@@ -233,6 +233,7 @@ def run(way, lines, seconds=60):
         return taken.read(), how
 
 
+@needs_built(LOCK)
 @in_parts(4)
 class Scripts(Parts):
     seconds = scaled(8)
@@ -289,6 +290,7 @@ def heard(calls, id, counts, committed):
             f" empty 0 0 0 stale 0 0 0 full {full} {full * id} 0")
 
 
+@needs_built(LOCK)
 class Numbered(Spinning):
     """A call with any number is answered, and is nobody's turn: two procedures are taken one after the other."""
 
@@ -318,6 +320,7 @@ class Numbered(Spinning):
         self.assertEqual([length for length, it in enumerate(answers[1::4]) if it != str(1 + length % 2)][:1], [])
 
 
+@needs_built(LOCK)
 class Budgets(Spinning):
     """With the largest budget, as many instructions: no part of any budget is missing."""
 
@@ -335,6 +338,7 @@ class Budgets(Spinning):
                 self.assertEqual(self.answers(lines, [7]), wanted)
 
 
+@needs_built(LOCK)
 class Turns(Spinning):
     """As many turns as were asked for, and as many entries as a journal has room for."""
 

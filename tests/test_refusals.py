@@ -18,7 +18,7 @@ from collections import Counter
 
 from chance import Parts, in_parts
 from preload import COMPILER, Preload
-from support import LIBRARY, ROOT, needs
+from support import LIBRARY, ROOT, needs, needs_built
 
 CASES = sorted((ROOT / "crates/lib_driver/cases").glob("*/*.stdout"))
 GROWTHS = re.compile(r"# growths: (\d+)(\+?)(?: (.+))?")
@@ -119,6 +119,7 @@ class Trial:
             self.test.assertTrue(is_right, f"{short(self.calls[index])} answers {answer} in {found} runs, not in {count}")
 
 
+@needs_built(LIBRARY)
 @needs(COMPILER or "cc")
 @in_parts(3)
 class Refusals(Parts):

@@ -19,7 +19,7 @@ from chance import SEED, Numbers, Parts, chance, constants, in_parts, scaled
 from preload import COMPILER, Preload
 from profile_model.packets import ground_packet
 from slots import EXIT, SPIN, call, move, slot
-from support import LOCK, PROGRAM, ocp
+from support import LOCK, PROGRAM, needs_built, ocp
 
 MOST_WORKERS, MOST_SEATS, MOST_TURNS, MOST_BUDGET = 16, 64, 2**14, 1_000_000
 APID, LOAD, ACTIVATE = 0x123, 1, 3
@@ -131,6 +131,7 @@ class Console(Working):
                 self.worked([PROGRAM], f"work {workers} 1 1\n", workers)
 
 
+@needs_built(LOCK)
 @in_parts(2)
 class Seats(Working):
     """Through the library, for each number of workers."""

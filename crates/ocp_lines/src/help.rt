@@ -1,4 +1,4 @@
-//! The help text about a script. No proof covers this text; `tests/commands` compares it.
+//! The help text about a script. No proof covers this text; `tests/test_commands.py` compares it.
 
 /// The lines of a script with the verbs of `send`, and the meaning of its transcript's numbers: the
 /// text after the options in the help of the command that runs one.

@@ -1,5 +1,5 @@
 //! The texts of help and of mistakes about the commands. No proof covers these texts;
-//! `tests/commands` compares them.
+//! `tests/test_commands.py` compares them.
 
 /// What `--version` prints after the name.
 pub(crate) const VERSION: &str = "0.1.0";
