@@ -1,15 +1,20 @@
 -- The second pass, row by row.
-use Rattle.std.proofs.Common.{◌≡◌, ◌<◌, ◌≤◌, ◌+◌, ◌++◌, ℕ, zero, suc, List, [], ◌∷◌, length, take, drop, get_or, map, Ok, Err, refl, sym, ap, ◌∙◌, subst, take-append-drop, drop-cons, append-nil, arith}
+use Rattle.std.proofs.Common.{◌≡◌, ◌<◌, ◌≤◌, ◌+◌, ◌++◌, ℕ, ℤ, pos, ◌-ℤ◌, Option, Some, None, zero, suc, List, [], ◌∷◌, length, take, drop, get_or, map, Ok, Err, refl, sym, ap, ◌∙◌, subst, take-append-drop, drop-cons, append-nil, arith}
 use Rattle.std.proofs.Math.ListN.{drop_of_length-le}
 use Rattle.std.proofs.lemmas.List.{take_more, map-append}
 use Rattle.std.proofs.lemmas.List.Elements.{All-append, All-nil}
 use Rattle.std.proofs.lemmas.Grind.{flat_map-append}
 use Rattle.std.specs.List.{All}
+use Rattle.std.specs.Prelude.{MatchOption}
+use Rattle.std.specs.Option.{ok_or}
 use Rattle.bpf_types.specs.declared.line.Line.{Line}
 use Rattle.bpf_types.specs.Line.{spelling, IsLine}
 use Rattle.bpf_decode.specs.Images.{image_of}
 use Rattle.bpf_text.specs.Lines.{TextLine}
-use Rattle.bpf_assembler.specs.Text.{Entry, IsInstruction, AreInstructions}
+use Rattle.bpf_text.specs.Judged.{text_of}
+use Rattle.bpf_assembler.specs.Text.{Entry, IsInstruction, AreInstructions, label_place, with_distance}
+use Rattle.bpf_assembler.specs.Faults.{MissesLabel}
+use Rattle.bpf_assembler.specs.declared.fault.Why.TheVariants as why
 use Rattle.bpf_assembler.specs.Mirror.Passes.{Resolves, ResolvesAll, AreResolved, entry}
 use Rattle.bpf_assembler.specs.declared.table.Row.{Row}
 use Rattle.bpf_assembler.specs.declared.fault.AsmFault.{AsmFault}
@@ -74,3 +79,15 @@ row_fault ws rows i r octets (At n y) view lt is h k = record {
 
 pub all_resolved : (ws : List TextLine) (rows : List Row) (i : ℕ) (octets : List ℕ) → length rows ≤ i → AreResolved ws (map entry (take i rows)) octets → AreResolved ws (map entry rows) octets
 all_resolved ws rows i octets le h = subst (λ (r : List Row). AreResolved ws (map entry r) octets) (all_rows rows i le) h
+
+-- the instruction of a row that names a label: with its distance, or none if that is not in range
+pub named_row : (ws : List TextLine) (row : Row) (name : List ℕ) (to : ℕ) (distance : ℤ) (o : Option Line) (f : AsmFault) → text_of row.name ≡ Some name → label_place name 0 ws ≡ Some to → distance ≡ pos to -ℤ pos (row.place + 1)
+    → MatchOption o (¬ IsLine (with_distance row.line distance)) (λ l. (l ≡ with_distance row.line distance) × IsLine l) → f ≡ At row.number why.Range → Resolves ws (entry row) (ok_or o f)
+named_row ws row name to distance (Some l) f e place d m is = subst (λ (n : Option (List ℕ)). IsInstruction ws row.place row.line n l) (sym e) (to, place, m.1, m.0 ∙ ap (with_distance row.line) d)
+named_row ws row name to distance None f e place d m is = subst (λ (g : AsmFault). Resolves ws (entry row) (Err g)) (sym is)
+    (refl, subst (λ (n : Option (List ℕ)). MissesLabel ws row.place row.line n why.Range) (sym e) (to, place, subst (λ (z : ℤ). ¬ IsLine (with_distance row.line z)) d m))
+
+-- a row that names no label of the text
+pub unnamed_row : (ws : List TextLine) (row : Row) (name : List ℕ) (f : AsmFault) → text_of row.name ≡ Some name → label_place name 0 ws ≡ None → f ≡ At row.number why.UnknownLabel → Resolves ws (entry row) (Err f)
+unnamed_row ws row name f e none is = subst (λ (g : AsmFault). Resolves ws (entry row) (Err g)) (sym is)
+    (refl, subst (λ (n : Option (List ℕ)). MissesLabel ws row.place row.line n why.UnknownLabel) (sym e) none)

@@ -50,8 +50,9 @@ fn resolve<A: Allocator>(labels: &BTreeMap<&[u8], u64, A>, row: &Row<'_>) -> Res
     let Some(name) = row.name else {
         return Ok(row.line);
     };
-    let unknown = AsmFault::at(row.number, Why::UnknownLabel);
-    let to = place_at(labels, name).ok_or(unknown)?;
+    let Some(to) = place_at(labels, name) else {
+        return Err(AsmFault::at(row.number, Why::UnknownLabel));
+    };
     let distance = i128::from(to) - (i128::from(row.place) + 1);
     with_distance(row.line, distance).ok_or(AsmFault::at(row.number, Why::Range))
 }
