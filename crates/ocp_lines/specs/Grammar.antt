@@ -200,6 +200,15 @@ abbrev pub communicate_in : List Word → Option Request
 communicate_in words =
     first_word (λ id rest. both (short id) (parameters_in rest) Communicate) words
 
+-- four of the verbs without octets
+abbrev pub other_verb_in : Word → List Word → Option Request
+other_verb_in name words =
+    if bytes_eq name (codes "resume") then option_map (λ id. Resume id) (id_in words)
+    else if bytes_eq name (codes "abort") then option_map (λ id. Abort id) (id_in words)
+    else if bytes_eq name (codes "communicate") then communicate_in words
+    else if bytes_eq name (codes "status") then no_word Status words
+    else None
+
 -- the verbs without octets
 abbrev pub plain_verb_in : Word → List Word → Option Request
 plain_verb_in name words =
@@ -207,11 +216,7 @@ plain_verb_in name words =
     else if bytes_eq name (codes "stop") then option_map (λ p. Stop p.0 p.1) (two_shorts words)
     else if bytes_eq name (codes "suspend") then
     option_map (λ p. Suspend p.0 p.1) (two_shorts words)
-    else if bytes_eq name (codes "resume") then option_map (λ id. Resume id) (id_in words)
-    else if bytes_eq name (codes "abort") then option_map (λ id. Abort id) (id_in words)
-    else if bytes_eq name (codes "communicate") then communicate_in words
-    else if bytes_eq name (codes "status") then no_word Status words
-    else None
+    else other_verb_in name words
 
 abbrev pub verb_in : Profile → Word → List Word → Option Request
 verb_in profile name words =
@@ -281,6 +286,16 @@ debugger_command_in name words =
     else if bytes_eq name (codes "mem") then memory_in words
     else None
 
+-- the lines about the pool, the journal and workers, and the debugger's
+abbrev pub engine_command_in : Word → List Word → Option Meaning
+engine_command_in name words =
+    if bytes_eq name (codes "pool") then pool_in words
+    else if bytes_eq name (codes "put") then put_in words
+    else if bytes_eq name (codes "journal") then no_word Journal words
+    else if bytes_eq name (codes "drain") then no_word Drain words
+    else if bytes_eq name (codes "work") then work_in words
+    else debugger_command_in name words
+
 -- the lines without octets, among them `step <id> <n>` and `round <id> <n>`
 abbrev pub plain_command_in : Word → List Word → Option Meaning
 plain_command_in name words =
@@ -289,12 +304,7 @@ plain_command_in name words =
     option_map (λ p. Step p.0 p.1) (id_and_steps words)
     else if bytes_eq name (codes "round") then
     option_map (λ p. Round p.0 p.1) (id_and_steps words)
-    else if bytes_eq name (codes "pool") then pool_in words
-    else if bytes_eq name (codes "put") then put_in words
-    else if bytes_eq name (codes "journal") then no_word Journal words
-    else if bytes_eq name (codes "drain") then no_word Drain words
-    else if bytes_eq name (codes "work") then work_in words
-    else debugger_command_in name words
+    else engine_command_in name words
 
 abbrev pub command_in : Profile → Word → List Word → Option Meaning
 command_in profile name words =

@@ -4,12 +4,12 @@ ghost use Rattle.std.specs.Prelude.{◌≡◌, length, IfOk, IfSome, OnErr, IsTr
 ghost use Rattle.std.specs.Option.{option_map};
 ghost use Rattle.ocp_profile.specs.declared.profile.Profile.{Profile};
 ghost use Rattle.ocp_lines.specs.Words.{words_of, number_up_to};
-ghost use Rattle.ocp_lines.specs.Grammar.{Fits, meaning_of, from_one, up_in, send_in, put_in, memory_in, work_in, switch, trace_in, debugger_command_in, plain_command_in, command_of, takes_octets, send_takes_octets};
+ghost use Rattle.ocp_lines.specs.Grammar.{Fits, meaning_of, from_one, up_in, send_in, put_in, memory_in, work_in, switch, trace_in, debugger_command_in, engine_command_in, id_and_steps, plain_command_in, command_of, takes_octets, send_takes_octets};
 
-use crate::command::{Command, Count, Flags, MAX_OCTETS_LENGTH, Shift};
+use crate::command::{Command, Count, Flags, MAX_OCTETS_LENGTH, MAX_STEPS, Shift};
 use crate::verbs::request;
 use crate::words::{
-    address, last_octets, long, next_word, number, one_short, one_word, short, three_words,
+    address, is, last_octets, long, next_word, number, one_short, one_word, short, three_words,
     two_shorts, two_words,
 };
 use ocp_profile::Profile;
@@ -82,9 +82,9 @@ fn put(arguments: &[u8]) -> Option<Command<'_>>
 fn switch(word: &[u8]) -> Option<bool>
     ensures { result ≡ switch word.now }
 {
-    if word == b"on".as_slice() {
+    if is(word, b"on") {
         Some(true)
-    } else if word == b"off".as_slice() {
+    } else if is(word, b"off") {
         Some(false)
     } else {
         None
@@ -141,21 +141,54 @@ fn debugger_command<'a>(name: &[u8], arguments: &'a [u8]) -> Option<Command<'a>>
         debugger_command_in name.now (words_of arguments.now) }
     ensures fits { (profile : Profile) → IfSome result (Fits profile) }
 {
-    if name == b"break".as_slice() {
+    if is(name, b"break") {
         let (id, place) = two_shorts(arguments)?;
         Some(Command::Break { id, place })
-    } else if name == b"unbreak".as_slice() {
+    } else if is(name, b"unbreak") {
         let (id, place) = two_shorts(arguments)?;
         Some(Command::Unbreak { id, place })
-    } else if name == b"trace".as_slice() {
+    } else if is(name, b"trace") {
         trace(arguments)
-    } else if name == b"view".as_slice() {
+    } else if is(name, b"view") {
         Some(Command::View(one_short(arguments)?))
-    } else if name == b"mem".as_slice() {
+    } else if is(name, b"mem") {
         memory(arguments)
     } else {
         None
     }
+}
+
+/// The command of this name with these arguments, if it is about the pool, the journal or workers,
+/// or is the debugger's.
+#[inline(always)]
+fn engine_command<'a>(name: &[u8], arguments: &'a [u8]) -> Option<Command<'a>>
+    ensures command { option_map meaning_of result ≡
+        engine_command_in name.now (words_of arguments.now) }
+    ensures fits { (profile : Profile) → IfSome result (Fits profile) }
+{
+    if is(name, b"pool") {
+        Some(Command::Pool(number(one_word(arguments)?, u64::MAX)?))
+    } else if is(name, b"put") {
+        put(arguments)
+    } else if is(name, b"journal") {
+        next_word(arguments).is_none().then_some(Command::Journal)
+    } else if is(name, b"drain") {
+        next_word(arguments).is_none().then_some(Command::Drain)
+    } else if is(name, b"work") {
+        work(arguments)
+    } else {
+        debugger_command(name, arguments)
+    }
+}
+
+/// The identifier and the number of instructions of a `step` or a `round` line.
+#[inline(always)]
+fn id_and_steps(arguments: &[u8]) -> Option<(u16, Count<MAX_STEPS>)>
+    ensures { option_map (λ p. (p.0, p.1.number)) result ≡ id_and_steps (words_of arguments.now) }
+{
+    let (id, steps) = two_words(arguments)?;
+    let id = short(id)?;
+    Some((id, count(steps)?))
 }
 
 /// The command of this name with these arguments, which are no octets.
@@ -165,30 +198,16 @@ fn plain_command<'a>(name: &[u8], arguments: &'a [u8]) -> Option<Command<'a>>
         plain_command_in name.now (words_of arguments.now) }
     ensures fits { (profile : Profile) → IfSome result (Fits profile) }
 {
-    if name == b"time".as_slice() {
+    if is(name, b"time") {
         Some(Command::Time(long(one_word(arguments)?)?))
-    } else if name == b"step".as_slice() {
-        let (id, steps) = two_words(arguments)?;
-        let id = short(id)?;
-        let steps = count(steps)?;
+    } else if is(name, b"step") {
+        let (id, steps) = id_and_steps(arguments)?;
         Some(Command::Step { id, steps })
-    } else if name == b"round".as_slice() {
-        let (id, steps) = two_words(arguments)?;
-        let id = short(id)?;
-        let steps = count(steps)?;
+    } else if is(name, b"round") {
+        let (id, steps) = id_and_steps(arguments)?;
         Some(Command::Round { id, steps })
-    } else if name == b"pool".as_slice() {
-        Some(Command::Pool(number(one_word(arguments)?, u64::MAX)?))
-    } else if name == b"put".as_slice() {
-        put(arguments)
-    } else if name == b"journal".as_slice() {
-        next_word(arguments).is_none().then_some(Command::Journal)
-    } else if name == b"drain".as_slice() {
-        next_word(arguments).is_none().then_some(Command::Drain)
-    } else if name == b"work".as_slice() {
-        work(arguments)
     } else {
-        debugger_command(name, arguments)
+        engine_command(name, arguments)
     }
 }
 
@@ -216,9 +235,9 @@ pub fn read_command<'a, A: Allocator>(
     let Some((name, arguments)) = next_word(line) else {
         return Ok(Some(Command::Nothing));
     };
-    if name == b"up".as_slice() {
+    if is(name, b"up") {
         up(scratch, arguments)
-    } else if name == b"send".as_slice() {
+    } else if is(name, b"send") {
         send(scratch, profile, arguments)
     } else {
         Ok(plain_command(name, arguments))

@@ -3,10 +3,10 @@
 ghost use Rattle.std.specs.Prelude.{◌≡◌, ◌≤◌, None, Some, length, IfOk, IfSome, MatchOption, OnErr, IsTrue};
 ghost use Rattle.ocp_profile.specs.declared.profile.Profile.{Profile};
 ghost use Rattle.ocp_lines.specs.Words.{words_of};
-ghost use Rattle.ocp_lines.specs.Grammar.{IsCarried, parameters_in, load_in, budget_in, activation_words, activate_in, communicate_in, plain_verb_in, verb_in, verb_takes_octets};
+ghost use Rattle.ocp_lines.specs.Grammar.{IsCarried, parameters_in, load_in, budget_in, activation_words, activate_in, communicate_in, other_verb_in, plain_verb_in, verb_in, verb_takes_octets};
 
 use crate::command::MAX_OCTETS_LENGTH;
-use crate::words::{last_octets, long, next_word, number, one_short, short, two_shorts};
+use crate::words::{is, last_octets, long, next_word, number, one_short, short, two_shorts};
 use arrayvec::ArrayVec;
 use obcp_messages::{Arguments, Code, MAX_ARGUMENTS_LENGTH, MAX_WORDS, Request, Words};
 use ocp_profile::Profile;
@@ -103,36 +103,47 @@ fn communicate(arguments: &[u8]) -> Option<Request<'_>>
     Some(Request::Communicate { id, words })
 }
 
+/// The request of this name with these arguments, if it is one of four that have no octets.
+#[inline(always)]
+fn other_request<'a>(name: &[u8], arguments: &'a [u8]) -> Option<Request<'a>>
+    ensures request { result ≡ other_verb_in name.now (words_of arguments.now) }
+    ensures fits { (profile : Profile) → IfSome result (IsCarried profile) }
+{
+    if is(name, b"resume") {
+        Some(Request::Resume {
+            id: one_short(arguments)?,
+        })
+    } else if is(name, b"abort") {
+        Some(Request::Abort {
+            id: one_short(arguments)?,
+        })
+    } else if is(name, b"communicate") {
+        communicate(arguments)
+    } else if is(name, b"status") {
+        next_word(arguments).is_none().then_some(Request::Status)
+    } else {
+        None
+    }
+}
+
 /// The request of this name with these arguments, which are no octets.
 #[inline(always)]
 fn plain_request<'a>(name: &[u8], arguments: &'a [u8]) -> Option<Request<'a>>
     ensures request { result ≡ plain_verb_in name.now (words_of arguments.now) }
     ensures fits { (profile : Profile) → IfSome result (IsCarried profile) }
 {
-    if name == b"unload".as_slice() {
+    if is(name, b"unload") {
         Some(Request::Unload {
             id: one_short(arguments)?,
         })
-    } else if name == b"stop".as_slice() {
+    } else if is(name, b"stop") {
         let (id, step) = two_shorts(arguments)?;
         Some(Request::Stop { id, step })
-    } else if name == b"suspend".as_slice() {
+    } else if is(name, b"suspend") {
         let (id, step) = two_shorts(arguments)?;
         Some(Request::Suspend { id, step })
-    } else if name == b"resume".as_slice() {
-        Some(Request::Resume {
-            id: one_short(arguments)?,
-        })
-    } else if name == b"abort".as_slice() {
-        Some(Request::Abort {
-            id: one_short(arguments)?,
-        })
-    } else if name == b"communicate".as_slice() {
-        communicate(arguments)
-    } else if name == b"status".as_slice() {
-        next_word(arguments).is_none().then_some(Request::Status)
     } else {
-        None
+        other_request(name, arguments)
     }
 }
 
@@ -149,9 +160,9 @@ pub(crate) fn request<'a, A: Allocator>(
         (IsTrue (verb_takes_octets profile name.now (words_of arguments.now))) }
     ensures fits { IfOk result (λ request. IfSome request (IsCarried profile)) }
 {
-    if name == b"load".as_slice() {
+    if is(name, b"load") {
         load(scratch, arguments)
-    } else if name == b"activate".as_slice() {
+    } else if is(name, b"activate") {
         activate(scratch, profile, arguments)
     } else {
         Ok(plain_request(name, arguments))

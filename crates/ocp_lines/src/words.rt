@@ -2,6 +2,7 @@
 
 ghost use Rattle.std.specs.Prelude.{◌≡◌, ◌<◌, ◌≤◌, ◌-◌, ◌/◌, ◌∷◌, [], length, vec_capacity, true, take, slice_index, IfOk, OnErr, IfSome, IfNone, MatchOption, ◌≢◌, ◌⊎◌};
 ghost use Rattle.std.specs.Option.{option_map};
+ghost use Rattle.std.specs.Str.{bytes_eq};
 ghost use Rattle.hex.specs.Hex.{hex_digit_value};
 ghost use Rattle.ocp_lines.specs.Words.{words_of, is_free_of, number_up_to, octets_up_to, hexadecimal, address_in};
 ghost use Rattle.ocp_lines.specs.Grammar.{short, long, id_in, two_shorts, word_or_none};
@@ -51,6 +52,14 @@ pub fn next_word(text: &[u8]) -> Option<(&[u8], &[u8])>
         return None;
     }
     Some((&rest[..length], &rest[length..]))
+}
+
+/// Whether a word is this one.
+#[inline(always)]
+pub(crate) fn is(word: &[u8], name: &[u8]) -> bool
+    ensures { result ≡ bytes_eq word.now name.now }
+{
+    word == name
 }
 
 /// The one word of a text.

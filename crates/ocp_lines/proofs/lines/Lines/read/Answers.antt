@@ -73,3 +73,36 @@ loop-reader-preserved g c =
           (omega (arith, c.in_ok-take.ensures.short, t.line.ok.0)) c.in_ok-take.ensures.one_line (λ ne. omega (arith, o.1 ne, o.0, inv.number));
       same = c.in-Some.ensures.count ∙ inv.same;
     }
+
+pub returns-then-self-clause-reads : goal.returns-then-self-clause-reads
+returns-then-self-clause-reads g c = λ input front taken h w. w
+
+pub returns-in_err-take-clause-reads : goal.returns-in_err-take-clause-reads
+returns-in_err-take-clause-reads g c = c.loop-reader.invariant.reads
+
+pub returns-then-branch-clause-reads : goal.returns-then-branch-clause-reads
+returns-then-branch-clause-reads g c = c.loop-reader.invariant.reads
+
+pub returns-then-is_empty-clause-reads : goal.returns-then-is_empty-clause-reads
+returns-then-is_empty-clause-reads g c =
+    let s = c.args.self.now in
+    let t = c.take.new.self in
+    let inv = c.loop-reader.invariant in
+    let o = c.in_ok-take.ensures.open c.if-branch.false in
+    let b = c.read.new.buffer in
+    let n = c.in-Some.count in
+    λ input front taken h w.
+    read_within input _ _ _ s.number s.is_over (octets_left s) front inv.fed.0 t.line.items (take n b) inv.begun taken inv.fed.1 c.in-Some.ensures.octets.0 (few_read n b (c.read.auto.buffer ∙ t.room)) h (inv.fed.2 ∙ sym o.2) s.few
+    (omega (arith, c.in_ok-take.ensures.short, t.line.ok.0)) c.in_ok-take.ensures.one_line (λ ne. omega (arith, o.1 ne, o.0, inv.number))
+
+pub returns-then-count-eq0-clause-reads : goal.returns-then-count-eq0-clause-reads
+returns-then-count-eq0-clause-reads g c =
+    let s = c.args.self.now in
+    let t = c.take.new.self in
+    let inv = c.loop-reader.invariant in
+    let o = c.in_ok-take.ensures.open c.if-branch.false in
+    let b = c.read.new.buffer in
+    let n = c.in-Some.count in
+    λ input front taken h w.
+    read_within input _ _ _ s.number s.is_over (octets_left s) front inv.fed.0 t.line.items (take n b) inv.begun taken inv.fed.1 c.in-Some.ensures.octets.0 (few_read n b (c.read.auto.buffer ∙ t.room)) h (inv.fed.2 ∙ sym o.2) s.few
+    (omega (arith, c.in_ok-take.ensures.short, t.line.ok.0)) c.in_ok-take.ensures.one_line (λ ne. omega (arith, o.1 ne, o.0, inv.number))
