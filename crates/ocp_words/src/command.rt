@@ -1,7 +1,7 @@
 //! The program's commands.
 
 ghost use Rattle.std.specs.Prelude.{◌≡◌, IfOk, codes, false, fold};
-ghost use Rattle.clap.specs.Words.{app_of, rule_of, new_app, with_rule};
+ghost use Rattle.clap.specs.Words.{App, app_of, rule_of, new_app, with_rule, with_subcommand};
 ghost use Rattle.clap.specs.declared.builder.command.Command.TheViews.{out-Command};
 ghost use Rattle.ocp_words.specs.Words.{ocp, program, asm, check, run, number_option};
 
@@ -146,13 +146,25 @@ fn list_command<'a>(alloc: Global) -> Command<'a>
     plain_command(alloc, "list", help::LIST_USAGE, help::LIST, help::LIST_HELP)
 }
 
+/// A command with one subcommand more, if there was memory for both.
+fn with_subcommand<'a>(
+    command: Result<Command<'a>, AllocError>,
+    subcommand: Result<Command<'a>, AllocError>,
+) -> Result<Command<'a>, AllocError>
+    ensures { (app sub : App) → IfOk command.entry (λ c. app_of c ≡ app) →
+        IfOk subcommand.entry (λ c. app_of c ≡ sub) →
+        IfOk subcommand.entry (λ c. (out-Command c).has_globals ≡ false) →
+        IfOk result (λ c. app_of c ≡ with_subcommand app sub.top) }
+{
+    command?.subcommand(subcommand?)
+}
+
 /// The program's commands and their options.
 pub(crate) fn ocp_command<'a>(alloc: Global) -> Result<Command<'a>, AllocError>
     ensures { IfOk result (λ c. app_of c ≡ ocp) }
 {
-    program_command(alloc)?
-        .subcommand(asm_command(alloc)?)?
-        .subcommand(check_command(alloc)?)?
-        .subcommand(list_command(alloc))?
-        .subcommand(run_command(alloc)?)
+    let program = with_subcommand(program_command(alloc), asm_command(alloc));
+    let program = with_subcommand(program, check_command(alloc));
+    let program = with_subcommand(program, Ok(list_command(alloc)));
+    with_subcommand(program, run_command(alloc))
 }
