@@ -1,9 +1,19 @@
 -- Registers and words one by one.
-use Rattle.std.proofs.Common.{◌≡◌, ◌<◌, ◌⊎◌, inl, inr, ℕ, zero, suc, List, length, get_or, set, sym, subst, ◌∙◌, arith}
+use Rattle.std.proofs.Common.{◌≡◌, ◌≤◌, ◌<◌, ◌+◌, ◌⊎◌, inl, inr, ℕ, zero, suc, List, length, get_or, set, sym, subst, ◌∙◌, arith}
 use Rattle.std.proofs.lemmas.List.{length-set, get_or-set_same, get_or-set_other}
 
 pub same_or_not : (j k : ℕ) → (j ≡ k) ⊎ (j ≡ k → ⊥)
 same_or_not j k = grind arith
+
+pub before : {k n m : ℕ} → k < n → n ≤ m → k < m
+before h l = omega (arith, h, l)
+
+-- what holds of the numbers below one, and of that one, holds of those below the next one
+pub below_next : (P : ℕ → Type 0) (n : ℕ) → ((k : ℕ) → k < n → P k) → P n → (k : ℕ) → k < n + 1 → P k
+below_next P n below here k h = elim (same_or_not k n) [
+  | inl e ↦ subst P (sym e) here
+  | inr m ↦ below k (omega (arith, h, m))
+]
 
 -- what holds of each number below eight, and below eleven
 pub eight : (P : ℕ → Type 0) → P 0 → P 1 → P 2 → P 3 → P 4 → P 5 → P 6 → P 7 → (k : ℕ) → k < 8 → P k

@@ -11,7 +11,7 @@ ghost use Rattle.ocp_check.specs.Never.{AsksWell};
 use crate::answers::{NEXT_PARAM, STEP_END};
 use crate::certificate::{Node, Row};
 use crate::checker::check;
-use crate::covering::node_at;
+use crate::covering::{node_and_line, node_at};
 use crate::range::{between, is_within};
 use bpf_types::Line;
 use ocp_loader::{MAX_SLOTS, Program};
@@ -59,10 +59,7 @@ pub(crate) fn words_asked<A: Allocator>(
 ) -> Option<u16> {
     let mut words = 0;
     for slot in 0..program.slots() as u16 {
-        if let (Some(node), Some(Line::Call { number })) = (
-            node_at(certificate, slot),
-            program.line_at(slot),
-        ) {
+        if let Some((node, Line::Call { number })) = node_and_line(program, certificate, slot) {
             if number != NEXT_PARAM && number != STEP_END {
                 let most = u16::try_from(node.row[1]?.high).ok()?.checked_add(1)?;
                 words = words.max(most);

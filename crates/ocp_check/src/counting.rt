@@ -31,7 +31,7 @@ pub struct Rank {
 }
 
 /// What becomes of a register.
-#[derive(Clone, Copy, Debug)]
+#[derive(Clone, Copy)]
 pub(crate) enum Step {
     /// It stays as it is.
     Kept,
@@ -120,7 +120,7 @@ fn shift_of(
 }
 
 /// The counter of a number, if there is one.
-fn counter_at(counters: &[Counter], k: usize) -> Option<Counter>
+pub(crate) fn counter_at(counters: &[Counter], k: usize) -> Option<Counter>
     ensures { result ≡ slice_get counters.now k }
 {
     match counters.get(k) {

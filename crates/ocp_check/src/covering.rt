@@ -13,7 +13,9 @@ use crate::form::{BASES, Form, Forms, form_of_known, form_of_sum, is_shifted, ra
 use crate::range::{Range, is_within, only};
 use crate::word::{WORDS, Words, free_base, is_word_shifted};
 use bpf_moves::REGISTERS;
-use bpf_types::{Operand, Reg};
+use bpf_types::{Line, Operand, Reg};
+use ocp_loader::Program;
+use std::alloc::Allocator;
 
 /// What is known of a register.
 pub(crate) fn range_of(row: &Row, source: Reg) -> Option<Range>
@@ -258,6 +260,17 @@ pub(crate) fn node_at(certificate: &[Option<Node>], slot: u16) -> Option<Node>
         Some(Some(node)) => Some(*node),
         _ => None,
     }
+}
+
+/// What the certificate says at a slot, and the line there, if the slot may be reached.
+pub(crate) fn node_and_line<A: Allocator>(
+    program: &Program<A>,
+    certificate: &[Option<Node>],
+    slot: u16,
+) -> Option<(Node, Line)> {
+    let node = node_at(certificate, slot)?;
+    let line = program.line_at(slot)?;
+    Some((node, line))
 }
 
 /// What the certificate says of the registers at a place, if the place may be reached.

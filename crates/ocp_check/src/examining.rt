@@ -7,7 +7,7 @@ ghost use Rattle.ocp_check.specs.Never.{AsksWell};
 use crate::asks::{check_pool, slot_asks_well, words_asked};
 use crate::certificate::Node;
 use crate::checker::{check, is_kept_at};
-use crate::covering::node_at;
+use crate::covering::{node_and_line, node_at};
 use crate::finding::find;
 use crate::ranking::{Ranking, cycle, find_ranks, most_of};
 use crate::refusal::{Refusal, Why, reason};
@@ -42,12 +42,12 @@ fn refusal_at<A: Allocator>(
     if is_kept_at(program, certificate, slot) {
         return None;
     }
-    match (node_at(certificate, slot), program.line_at(slot)) {
-        (Some(node), Some(line)) => Some(Refusal {
+    match node_and_line(program, certificate, slot) {
+        Some((node, line)) => Some(Refusal {
             slot,
             why: reason(&node, line),
         }),
-        _ => None,
+        None => None,
     }
 }
 
@@ -126,6 +126,32 @@ fn round<A: Allocator>(
     }
 }
 
+/// What a certificate and ranks show of an image.
+fn findings_by<A: Allocator + Copy>(
+    alloc: A,
+    program: &Program<A>,
+    certificate: &[Option<Node>],
+    found: &Ranking<A>,
+    pool_words: u16,
+) -> Result<Findings<A>, AllocError>
+    ensures never { IfOk result (λ f. IsTrue f.never_faults → NeverFaults program.now) }
+    ensures faults { IfOk result (λ f. f.faults.items ≡ [] → NeverFaults program.now) }
+    ensures words { IfOk result (λ f. IfSome f.words (AsksWell program.now)) }
+    ensures round { IfOk result (λ f. IfSome f.round (IsWithin program.now)) }
+{
+    let faults = faults(alloc, program, certificate)?;
+    let asks = asks(alloc, program, certificate, pool_words)?;
+    let cycle = cycle(alloc, program, &found.by(certificate))?;
+    Ok(Findings {
+        never_faults: check(program, certificate),
+        faults,
+        asks,
+        words: words(program, certificate),
+        round: round(program, certificate, found),
+        cycle,
+    })
+}
+
 /// What an image can never do, with any arguments, pool, mailbox and answers of engine calls. The
 /// calls that may ask for a missing word are listed for a pool of the given number of words. The
 /// time is linear in the slots: the searches go over them at most 2,000 times, of which at most 50
@@ -143,12 +169,5 @@ pub fn examine<A: Allocator + Copy>(
 {
     let certificate = find(alloc, program)?;
     let found = find_ranks(alloc, program, &certificate)?;
-    Ok(Findings {
-        never_faults: check(program, &certificate),
-        faults: faults(alloc, program, &certificate)?,
-        asks: asks(alloc, program, &certificate, pool_words)?,
-        words: words(program, &certificate),
-        round: round(program, &certificate, &found),
-        cycle: cycle(alloc, program, &found.by(&certificate))?,
-    })
+    findings_by(alloc, program, &certificate, &found, pool_words)
 }

@@ -8,7 +8,7 @@
 use crate::answers::after_engine_call;
 use crate::certificate::{Node, after_return};
 use crate::checker::{at_start, is_kept_at};
-use crate::covering::{node_at, with_known};
+use crate::covering::{node_and_line, with_known};
 use crate::form::Form;
 use crate::range::{Range, WORK_OCTETS, is_empty, lesser, only, stride_of, sum};
 use crate::steps::{after_line, at_call, range_by_test, target};
@@ -57,15 +57,21 @@ const FIRST_LANDMARKS: [u64; 16] = [
     WORK + WORK_OCTETS,
 ];
 
+/// What is known at the ends of local calls.
+#[derive(Clone, Copy)]
+struct Ending {
+    /// Of R0, if there is such an end.
+    known: Option<Option<Range>>,
+    /// From which address on the stack is as it was when the call was opened.
+    spared: u64,
+}
+
 /// What is known at each slot so far.
 #[derive(Drop)]
 struct Search<A: Allocator> {
     nodes: Vec<Option<Node>, A>,
     landmarks: Vec<u64, A>,
-    /// Of R0 at the ends of local calls, if there is one.
-    end: Option<Option<Range>>,
-    /// From which address on the stack is as before at the ends of local calls.
-    spared: u64,
+    ending: Ending,
     pass: u32,
     has_changed: bool,
 }
@@ -236,11 +242,11 @@ impl<A: Allocator> Search<A> {
         if let Some(place) = target(slot, distance) {
             self.enter(slot, place, &at_call(node, pointer, None, 0));
         }
-        if let Some(end) = self.end {
+        if let Some(end) = self.ending.known {
             self.enter(
                 slot,
                 usize::from(slot) + 1,
-                &after_return(node, end, self.spared),
+                &after_return(node, end, self.ending.spared),
             );
         }
     }
@@ -250,16 +256,16 @@ impl<A: Allocator> Search<A> {
         if node.depth == 0 {
             return;
         }
-        if self.spared < node.kept {
-            self.spared = node.kept;
+        if self.ending.spared < node.kept {
+            self.ending.spared = node.kept;
             self.has_changed = true;
         }
-        let end = match self.end {
+        let end = match self.ending.known {
             Some(end) => hull(end, node.row[0]),
             None => node.row[0],
         };
-        if self.end != Some(end) {
-            self.end = Some(if self.pass < WIDE_PASSES { end } else { None });
+        if self.ending.known != Some(end) {
+            self.ending.known = Some(if self.pass < WIDE_PASSES { end } else { None });
             self.has_changed = true;
         }
     }
@@ -306,7 +312,7 @@ impl<A: Allocator> Search<A> {
     fn sweep(&mut self, program: &Program<A>, slots: u16) {
         self.has_changed = false;
         for slot in 0..slots {
-            if let (Some(node), Some(line)) = (node_at(&self.nodes, slot), program.line_at(slot)) {
+            if let Some((node, line)) = node_and_line(program, &self.nodes, slot) {
                 self.flow(slot, &node, line);
             }
         }
@@ -361,12 +367,12 @@ fn landmarks_of<A: Allocator>(
 }
 
 /// Says at each slot what is promised at the ends of local calls.
-fn promise_to(nodes: &mut [Option<Node>], end: Option<Option<Range>>, spared: u64) {
-    let promise = end.flatten();
+fn promise_to(nodes: &mut [Option<Node>], ending: Ending) {
+    let promise = ending.known.flatten();
     for node in nodes.iter_mut() {
         if let Some(node) = node {
             node.promise = promise;
-            node.spared = spared;
+            node.spared = ending.spared;
         }
     }
 }
@@ -396,8 +402,7 @@ fn search_from<A: Allocator + Copy>(
     alloc: A,
     slots: usize,
     landmarks: Vec<u64, A>,
-    end: Option<Option<Range>>,
-    spared: u64,
+    ending: Ending,
 ) -> Result<Search<A>, AllocError> {
     let mut nodes = vec![in alloc; None; slots]?;
     if let Some(first) = nodes.first_mut() {
@@ -406,8 +411,7 @@ fn search_from<A: Allocator + Copy>(
     Ok(Search {
         nodes,
         landmarks,
-        end,
-        spared,
+        ending,
         pass: 0,
         has_changed: true,
     })
@@ -419,12 +423,11 @@ fn narrower<A: Allocator + Copy>(
     alloc: A,
     program: &Program<A>,
     wide: &[Option<Node>],
-    end: Option<Option<Range>>,
-    spared: u64,
+    ending: Ending,
 ) -> Result<Vec<Option<Node>, A>, AllocError> {
-    let mut search = search_from(alloc, wide.len(), Vec::new(alloc), end, spared)?;
+    let mut search = search_from(alloc, wide.len(), Vec::new(alloc), ending)?;
     for slot in 0..program.slots() as u16 {
-        if let (Some(node), Some(line)) = (node_at(wide, slot), program.line_at(slot)) {
+        if let Some((node, line)) = node_and_line(program, wide, slot) {
             search.flow(slot, &node, line);
         }
     }
@@ -436,15 +439,14 @@ fn narrow<A: Allocator + Copy>(
     alloc: A,
     program: &Program<A>,
     nodes: &mut Vec<Option<Node>, A>,
-    end: Option<Option<Range>>,
-    spared: u64,
+    ending: Ending,
 ) -> Result<bool, AllocError> {
     let least = unkept(program, nodes);
     if least == 0 {
         return Ok(false);
     }
-    let mut next = narrower(alloc, program, nodes, end, spared)?;
-    promise_to(&mut next, end, spared);
+    let mut next = narrower(alloc, program, nodes, ending)?;
+    promise_to(&mut next, ending);
     take_depths(&mut next, nodes);
     if unkept(program, &next) > least {
         return Ok(false);
@@ -453,20 +455,31 @@ fn narrow<A: Allocator + Copy>(
     Ok(true)
 }
 
+/// What is known at each slot after the passes, and at the ends of local calls.
+fn search_slots<A: Allocator + Copy>(
+    alloc: A,
+    program: &Program<A>,
+) -> Result<(Vec<Option<Node>, A>, Ending), AllocError> {
+    let slots = program.slots();
+    let landmarks = landmarks_of(alloc, program, slots as u16)?;
+    let ending = Ending {
+        known: None,
+        spared: 0,
+    };
+    let mut search = search_from(alloc, slots, landmarks, ending)?;
+    search.settle(program, slots as u16);
+    Ok((search.nodes, search.ending))
+}
+
 /// What is known at each slot that may be reached: a certificate, if the search finished.
 pub(crate) fn find<A: Allocator + Copy>(
     alloc: A,
     program: &Program<A>,
 ) -> Result<Vec<Option<Node>, A>, AllocError> {
-    let slots = program.slots();
-    let landmarks = landmarks_of(alloc, program, slots as u16)?;
-    let mut search = search_from(alloc, slots, landmarks, None, 0)?;
-    search.settle(program, slots as u16);
-    let (end, spared) = (search.end, search.spared);
-    let mut nodes = search.nodes;
-    promise_to(&mut nodes, end, spared);
+    let (mut nodes, ending) = search_slots(alloc, program)?;
+    promise_to(&mut nodes, ending);
     for _ in 0..NARROW_PASSES {
-        if !narrow(alloc, program, &mut nodes, end, spared)? {
+        if !narrow(alloc, program, &mut nodes, ending)? {
             break;
         }
     }

@@ -7,7 +7,7 @@
 use crate::answers::{STEP_END, may_write_r1};
 use crate::certificate::Node;
 use crate::counting::{COUNTERS, Counter, Rank, Step, Steps};
-use crate::covering::{node_at, range_of};
+use crate::covering::{node_and_line, range_of};
 use crate::rounds::{
     Ranks, ahead_after, ahead_at, most_at, step_of_line, steps_of_call, steps_with,
 };
@@ -194,8 +194,8 @@ fn rank_here<A: Allocator>(
     slot: u16,
     cut: Option<Cut>,
 ) -> u64 {
-    match (node_at(all.nodes, slot), program.line_at(slot)) {
-        (Some(node), Some(line)) if !is_cut(program, slot, cut) => {
+    match node_and_line(program, all.nodes, slot) {
+        Some((node, line)) if !is_cut(program, slot, cut) => {
             rank_before(all, slot, &node, line, cut)
         }
         _ => 0,
@@ -252,7 +252,7 @@ fn counter_of<A: Allocator>(
 ) -> Option<Counter> {
     let mut found = None;
     for slot in 0..program.slots() as u16 {
-        if let (Some(node), Some(line)) = (node_at(nodes, slot), program.line_at(slot)) {
+        if let Some((node, line)) = node_and_line(program, nodes, slot) {
             if span.holds(usize::from(slot)) && changes(line, register.number()) {
                 let one = counter_by_line(&node, line, register)?;
                 found = Some(match found {
@@ -313,7 +313,7 @@ impl<A: Allocator> Ranking<A> {
     fn weight(&self, program: &Program<A>, nodes: &[Option<Node>], cut: Cut) -> Option<u32> {
         let mut weight = 1;
         for slot in 0..program.slots() as u16 {
-            if let (Some(node), Some(line)) = (node_at(nodes, slot), program.line_at(slot)) {
+            if let Some((node, line)) = node_and_line(program, nodes, slot) {
                 if is_cut(program, slot, Some(cut)) {
                     let ahead = rank_before(&self.by(nodes), slot, &node, line, Some(cut));
                     weight = weight.max(u32::try_from(ahead).ok()?);
@@ -513,10 +513,7 @@ pub(crate) fn find_ranks<A: Allocator + Copy>(
 pub(crate) fn most_of<A: Allocator>(program: &Program<A>, all: &Ranks<'_>) -> Option<u32> {
     let mut most = most_at(all, 0)?;
     for slot in 0..program.slots() as u16 {
-        if let (Some(node), Some(Line::Call { number })) = (
-            node_at(all.nodes, slot),
-            program.line_at(slot),
-        ) {
+        if let Some((node, Line::Call { number })) = node_and_line(program, all.nodes, slot) {
             if number == STEP_END && node.depth == 0 {
                 most = most.max(most_at(all, usize::from(slot) + 1)?);
             }
@@ -554,8 +551,7 @@ fn highest_place_after(ranks: &[Rank], slot: u16, line: Line, depth: u8) -> Opti
 
 /// The same of a slot.
 fn slot_after<A: Allocator>(program: &Program<A>, all: &Ranks<'_>, slot: u16) -> Option<u16> {
-    let node = node_at(all.nodes, slot)?;
-    let line = program.line_at(slot)?;
+    let (node, line) = node_and_line(program, all.nodes, slot)?;
     u16::try_from(highest_place_after(all.ranks, slot, line, node.depth)?).ok()
 }
 

@@ -23,7 +23,7 @@ use crate::answers::STEP_END;
 use crate::certificate::{Node, Row};
 use crate::checker::check;
 use crate::counting::Step::{Anywhere, By, Kept};
-use crate::counting::{COUNTERS, Counter, Rank, Step, Steps, ahead_by};
+use crate::counting::{COUNTERS, Counter, Rank, Step, Steps, ahead_by, counter_at};
 use crate::covering::{node_at, range_of, row_at, tie_of, with_base};
 use crate::form::Form;
 use crate::range::Range;
@@ -151,8 +151,8 @@ pub(crate) fn ahead_at(
         ≤ most + total_share all.now.counters.now was.now old 8) }
 {
     match row_at(all.nodes, place) {
-        Some(after) => match all.ranks.get(place) {
-            Some(rank) => ahead_by(all.counters, was, rank, before, &after, steps),
+        Some(after) => match rank_at(all.ranks, place) {
+            Some(rank) => ahead_by(all.counters, was, &rank, before, &after, steps),
             None => None,
         },
         None => Some(0),
@@ -184,11 +184,11 @@ pub(crate) fn ahead_after(
         value_at all.now.ranks.now all.now.counters.now place (registers_of (frame_of s))
         ≤ most + total_share all.now.counters.now was.now s.registers 8) }
 {
-    match all.ranks.get(place) {
+    match rank_at(all.ranks, place) {
         Some(rank) => ahead_by(
             all.counters,
             was,
-            rank,
+            &rank,
             before,
             &saved_row(before),
             &steps_of_return(),
@@ -205,7 +205,7 @@ fn lowers(all: &Ranks<'_>, slot: u16, node: &Node, place: usize, steps: &Steps) 
         value_at all.now.ranks.now all.now.counters.now t.place t.registers
         < value_at all.now.ranks.now all.now.counters.now s.place s.registers }
 {
-    let Some(here) = all.ranks.get(usize::from(slot)) else {
+    let Some(here) = rank_at(all.ranks, usize::from(slot)) else {
         return false;
     };
     match ahead_at(all, &here.counts, &node.row, place, steps) {
@@ -318,7 +318,7 @@ fn call_lowers(all: &Ranks<'_>, slot: u16, node: &Node, number: i32, most: u32) 
 fn is_steady(all: &Ranks<'_>, place: usize) -> bool
     ensures { IsTrue result → IsSteady all.now.ranks.now all.now.counters.now place }
 {
-    match all.ranks.get(place) {
+    match rank_at(all.ranks, place) {
         Some(rank) => are_saved(all.counters, &rank.counts),
         None => false,
     }
@@ -343,7 +343,7 @@ fn is_saved(counters: &[Counter], k: usize) -> bool
         share_of (slice_get counters.now k) counts new
         ≡ share_of (slice_get counters.now k) counts old }
 {
-    match counters.get(k) {
+    match counter_at(counters, k) {
         Some(counter) => counter.register.number() > 5,
         None => true,
     }

@@ -129,36 +129,31 @@ fn with_growth(old: &Cells, from: &Cells) -> [Option<Form>; CELLS] {
     forms
 }
 
-/// What becomes of the base of a form, if it is that of its register.
-fn shift_by(from: &Cells, forms: &[Option<Form>; CELLS], anchor: usize) -> Option<Form> {
-    let to = (*forms.get(anchor)?)?;
-    let form = form_of_known(*from.row.get(anchor)?, *from.forms.get(anchor)?)?;
-    if to.times != 1 {
-        return None;
-    }
-    Some(form_of_sum(form, to.plus.wrapping_neg()))
-}
-
-/// Whether a register follows a shift of its base.
-fn follows_shift(shift: &Form, from: &Cells, to: Form, k: usize) -> bool {
-    match (from.row.get(k), from.forms.get(k)) {
-        (Some(range), Some(form)) => match form_of_known(*range, *form) {
-            Some(form) => is_shifted_by(shift, form, to),
-            None => false,
-        },
-        _ => false,
+/// What becomes of the base of a cell's form, if the cell is the base and a number more.
+fn shift_by(known: Option<Range>, form: Option<Form>, to: Form) -> Option<Form> {
+    match form_of_known(known, form) {
+        Some(form) if to.times == 1 => Some(form_of_sum(form, to.plus.wrapping_neg())),
+        _ => None,
     }
 }
 
-/// How many registers of a base follow the shift of one of them.
-fn followers(from: &Cells, forms: &[Option<Form>; CELLS], base: u8, anchor: usize) -> u32 {
-    let Some(shift) = shift_by(from, forms, anchor) else {
+/// Whether a cell follows a shift of its base.
+fn follows_shift(shift: &Form, known: Option<Range>, form: Option<Form>, to: Form) -> bool {
+    match form_of_known(known, form) {
+        Some(form) => is_shifted_by(shift, form, to),
+        None => false,
+    }
+}
+
+/// How many cells of a base follow a shift of it, if there is one.
+fn followers(from: &Cells, forms: &[Option<Form>; CELLS], base: u8, shift: Option<Form>) -> u32 {
+    let Some(shift) = shift else {
         return 0;
     };
     let mut count = 0u32;
     for k in 0..CELLS {
         if let Some(to) = forms[k] {
-            if to.base == base && follows_shift(&shift, from, to, k) {
+            if to.base == base && follows_shift(&shift, from.row[k], from.forms[k], to) {
                 count = count.saturating_add(1);
             }
         }
@@ -166,15 +161,19 @@ fn followers(from: &Cells, forms: &[Option<Form>; CELLS], base: u8, anchor: usiz
     count
 }
 
-/// The register of a base whose shift most others follow.
-fn best_anchor(from: &Cells, forms: &[Option<Form>; CELLS], base: u8) -> usize {
-    let mut best = 0;
+/// The shift of a base which most of its cells follow; that of the first cell if no cell has one.
+fn best_shift(from: &Cells, forms: &[Option<Form>; CELLS], base: u8) -> Option<Form> {
+    let mut best = match forms[0] {
+        Some(to) => shift_by(from.row[0], from.forms[0], to),
+        None => None,
+    };
     let mut most = 0;
     for k in 0..CELLS {
         if let Some(to) = forms[k] {
-            let count = followers(from, forms, base, k);
+            let shift = shift_by(from.row[k], from.forms[k], to);
+            let count = followers(from, forms, base, shift);
             if to.base == base && count > most {
-                best = k;
+                best = shift;
                 most = count;
             }
         }
@@ -187,9 +186,8 @@ fn common(from: &Cells, forms: &[Option<Form>; CELLS]) -> [Option<Form>; CELLS] 
     let mut left = *forms;
     for k in 0..CELLS {
         if let Some(to) = forms[k] {
-            let anchor = best_anchor(from, forms, to.base);
-            let is_kept = match shift_by(from, forms, anchor) {
-                Some(shift) => follows_shift(&shift, from, to, k),
+            let is_kept = match best_shift(from, forms, to.base) {
+                Some(shift) => follows_shift(&shift, from.row[k], from.forms[k], to),
                 None => false,
             };
             if !is_kept {
