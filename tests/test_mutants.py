@@ -57,6 +57,12 @@ impl Thing {
     }
 }
 """
+
+
+def edit(old, new):
+    return f"file: src/lib.rt\nold: {old}\nnew: {new}\n"
+
+
 FILES = {
     "crates.txt": "low:\nhigh: low std_of_kit # a comment\n",
     "crates/low/src/lib.rt": LOW,
@@ -69,8 +75,8 @@ FILES = {
     "crates/high/proofs/high/Answers.antt": "use Rattle.high.proofs.Own.{own}\nreturns c = own\n",
     "crates/high/proofs/Own.antt": "use Rattle.low.proofs.Halves.{half}\npub own : ℕ\n",
     "crates/high/proofs/Thing/other/Answers.antt": "returns c = search\n",
-    "crates/high/must-fail/thrice.edit": "file: src/lib.rt\nold:     let twice = n + n;\nnew:     let twice = n + n + n; // REFUSE\n",
-    "crates/high/edits/by-four.edit": "file: src/lib.rt\nold:         n * 3\nnew:         n * 4 // REFUSE\n",
+    "crates/high/must-fail/thrice.edit": edit("    let twice = n + n;", "    let twice = n + n + n; // REFUSE"),
+    "crates/high/edits/by-four.edit": edit("        n * 3", "        n * 4 // REFUSE"),
 }
 # The pretended toolchain: what it says of a crate is decided by words in its sources.
 RATTLE = '''#!/usr/bin/env python3
@@ -81,7 +87,7 @@ word = source.split("\\n")[line - 1].split()[-1]
 name = "high" if "thrice" in source or line < 12 else "Thing::other"
 note = f"note: src/lib.rt:{line}:1: it is not proved that what the function ensures holds (`returns`)"
 if "SLOW" in source:
-    pathlib.Path("/dev/stderr").write_text("")
+    pathlib.Path(sys.argv[0]).with_name("begun").touch()
     time.sleep(600)
 if word == "BROKEN":
     print(f"src/lib.rt:{line}:3: error[mismatched-types]: expected `u8`")
@@ -189,7 +195,7 @@ class OfSums(Repository):
         self.assertNotEqual(self.sums("one"), self.sums("two"))
 
     def test_a_mutant_in_no_function_rests_on_the_whole_crate(self):
-        self.write("crates/high/edits/a-sum.edit", "file: src/lib.rt\nold: impl Thing {\nnew: impl Other {\n")
+        self.write("crates/high/edits/a-sum.edit", edit("impl Thing {", "impl Other {"))
         self.assertEqual(self.changed("crates/high/proofs/Thing/other/Answers.antt", "search", "grind"), {"by-four", "a-sum"})
         self.assertEqual(self.changed("crates/high/src/lib.rt", "    twice\n", "    twice + 0\n"), {"thrice", "a-sum"})
 
@@ -229,30 +235,13 @@ class OfRecords(Repository):
             (first.replace(first.split()[1], second.split()[1]) + second, "by-four", "edited"),
             (first + second + second.replace("thrice", "zeros"), "zeros", "no mutant"),
             (first + second[:-3], "mutants.record", "cut off"),
-            (first + "<<<<<<< ours\n" + second, "mutants.record", "no record"),
-            (second + first, "mutants.record", "not in order"),
-            (first + first + second, "mutants.record", "each mutant once"),
-            ("", "thrice", "no record"),
+            (first + "        for text, why in (
+            ("file: src/lib.rt\n", "changes nothing"),
+            (edit("n * 3", "n * 3"), "changes nothing"),
+            ("file: src/gone.rt\nold: a\nnew: b\n", "no file"),
+            ("old: a\nnew: b\n", "no file"),
+            ("file: src/../../low/src/lib.rt\nold: n / 2\nnew: n\n", "no file"),
         ):
-            with self.subTest(text=text):
-                self.file.write_text(text, encoding="utf-8")
-                self.assertIn(why, self.faults().get(name, ""))
-
-    def test_not_text(self):
-        self.file.write_bytes(b"\xff\xfe\0")
-        self.assertIn("not text", self.faults()["mutants.record"])
-
-    def test_text_of_a_mutant_is_gone(self):
-        self.change("crates/high/src/lib.rt", "n * 3", "n * 7")
-        self.assertEqual(self.faults(), {"by-four": "its text is in src/lib.rt 0 times: n * 3"})
-
-    def test_two_mutants_of_one_name(self):
-        self.write("crates/high/must-fail/by-four.edit", FILES["crates/high/edits/by-four.edit"])
-        self.assertIn("two mutants", self.faults()["by-four"])
-
-    def test_edits_that_change_nothing_or_name_no_file(self):
-        for text, why in (("file: src/lib.rt\n", "changes nothing"), ("file: src/gone.rt\nold: a\nnew: b\n", "no file"),
-                          ("old: a\nnew: b\n", "no file"), ("file: ../low/src/lib.rt\nold: n\nnew: m\n", "no file")):
             self.write("crates/high/edits/by-four.edit", text)
             self.assertIn(why, self.faults()["by-four"])
 
@@ -342,7 +331,8 @@ class OfCommand(Repository):
         self.crate = self.top / "crates/high"
 
     def run_it(self, *words):
-        ran = subprocess.run([self.top / ".ci/mutants", *words], env=self.words, capture_output=True, text=True, check=False, timeout=60)
+        how = {"env": self.words, "capture_output": True, "text": True, "timeout": 120}
+        ran = subprocess.run([self.top / ".ci/mutants", *words], **how, check=False)
         return ran.returncode, ran.stdout + ran.stderr
 
     def git(self, *words):
@@ -382,8 +372,12 @@ class OfCommand(Repository):
         self.assertFalse((self.crate / "mutants.record").exists())
 
     def test_not_refused_is_not_recorded(self):
-        for word, verdict, why in (("NONE", "proved", ""), ("BROKEN", "not-tried", "does not compile"),
-                                   ("MISSING", "not-tried", "names what the edit took away"), ("OTHERS", "not-tried", "no goal of it")):
+        for word, verdict, why in (
+            ("NONE", "proved", ""),
+            ("BROKEN", "not-tried", "does not compile"),
+            ("MISSING", "not-tried", "names what the edit took away"),
+            ("OTHERS", "not-tried", "no goal of it"),
+        ):
             with self.subTest(word=word):
                 self.write("crates/high/must-fail/thrice.edit", FILES["crates/high/must-fail/thrice.edit"].replace("REFUSE", word))
                 status, said = self.run_it("--record", "--only", "thrice", "high")
@@ -403,11 +397,14 @@ class OfCommand(Repository):
         self.write("crates/high/must-fail/thrice.edit", FILES["crates/high/must-fail/thrice.edit"].replace("REFUSE", "SLOW"))
         for number, status in ((signal.SIGKILL, -9), (signal.SIGINT, 130), (signal.SIGTERM, 143)):
             with self.subTest(number=number):
-                ran = subprocess.Popen([self.top / ".ci/mutants", "--record"], env=self.words, stdout=subprocess.DEVNULL,
-                                       stderr=subprocess.DEVNULL, start_new_session=True)
-                time.sleep(1)
+                begun = self.top / "kit/bin/begun"
+                begun.unlink(missing_ok=True)
+                how = {"stdout": subprocess.DEVNULL, "stderr": subprocess.DEVNULL, "start_new_session": True}
+                ran = subprocess.Popen([self.top / ".ci/mutants", "--record"], env=self.words, **how)
+                while not begun.exists() and ran.poll() is None:
+                    time.sleep(0.05)
                 ran.send_signal(number)
-                self.assertEqual(ran.wait(20), status)
+                self.assertEqual(ran.wait(60), status)
                 with contextlib.suppress(ProcessLookupError):
                     os.killpg(ran.pid, signal.SIGKILL)
                 self.assertEqual((self.crate / "mutants.record").read_text(encoding="utf-8"), kept)
@@ -422,8 +419,12 @@ class OfCommand(Repository):
         self.assertNotIn("Traceback", said)
 
     def test_wrong_words(self):
-        for words, why in ((["nowhere"], "no crate nowhere"), (["--only", "nothing", "high"], "no mutant nothing"), ([], "name crates"),
-                           (["--lanes", "0", "high"], "--lanes")):
+        for words, why in (
+            (["nowhere"], "no crate nowhere"),
+            (["--only", "nothing", "high"], "no mutant nothing"),
+            ([], "name crates"),
+            (["--lanes", "0", "high"], "--lanes"),
+        ):
             status, said = self.run_it(*words)
             self.assertEqual(status, 2)
             self.assertIn(why, said)

@@ -1,7 +1,7 @@
 """The records of tried mutants: a file crates/NAME/mutants.record, written by `.ci/mutants --record` alone.
 
-A line is a mutant that the prover refused: its name, a checksum of all that its check read (tools/mutation/sums.py), and the goals that
-the prover could not prove, at most three. The checksum is over the goals too, so a line that was edited is found.
+A line is a mutant that the prover refused: its name, a checksum of all that its check read (tools/mutation/sums.py), and the goals
+that the prover could not prove, at most three. The checksum is over the goals too, so a line that was edited is found.
 """
 import contextlib
 import fcntl

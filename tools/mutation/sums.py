@@ -70,8 +70,8 @@ class Crate:
 
     def proof_of(self, mutant):
         """The files of the proof of the function that a mutant changes. One of a type may be in another file than the type."""
-        return [name for name in self.proofs
-                if any(is_proof(Path(name).parts[1:count], mutant) for count in range(2, len(Path(name).parts)))]
+        folders = {name: Path(name).parts[1:-1] for name in self.proofs}
+        return [name for name, at in folders.items() if any(is_proof(at[:count], mutant) for count in range(1, len(at) + 1))]
 
 
 def is_proof(parts, mutant):
