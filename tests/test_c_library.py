@@ -75,8 +75,7 @@ class Build(Case):
         self.assertRegex(done.stderr, r"^Proves 25 of 25 crates, in about \d+ minutes on \d+ idle cores\.")
         for path, target in TARGETS.items():
             self.assertEqual((self.clone / "crates/ocp_c" / path).read_text(), f"{target}\n")
-        self.assertEqual(sorted(set(self.proved())), sorted({*self.proved()}))
-        self.assertEqual(self.proved().count("ocp_c"), 2)
+        self.assertEqual((self.proved().count("ocp_c"), len(self.proved()), len(set(self.proved()))), (2, 25, 24))
         again = self.ocp("library", "--target", "aarch64-unknown-linux-gnu")
         self.assertEqual((again.stderr, len(self.proved())), ("", 25))
         (self.clone / "crates/ocp_c/out/libocp_c.a").unlink()
