@@ -235,7 +235,29 @@ class OfRecords(Repository):
             (first.replace(first.split()[1], second.split()[1]) + second, "by-four", "edited"),
             (first + second + second.replace("thrice", "zeros"), "zeros", "no mutant"),
             (first + second[:-3], "mutants.record", "cut off"),
-            (first + "        for text, why in (
+            (first + "<<<<<<< ours\n" + second, "mutants.record", "no record"),
+            (second + first, "mutants.record", "not in order"),
+            (first + first + second, "mutants.record", "each mutant once"),
+            ("", "thrice", "no record"),
+        ):
+            with self.subTest(text=text):
+                self.file.write_text(text, encoding="utf-8")
+                self.assertIn(why, self.faults().get(name, ""))
+
+    def test_not_text(self):
+        self.file.write_bytes(b"\xff\xfe\0")
+        self.assertIn("not text", self.faults()["mutants.record"])
+
+    def test_text_of_a_mutant_is_gone(self):
+        self.change("crates/high/src/lib.rt", "n * 3", "n * 7")
+        self.assertEqual(self.faults(), {"by-four": "its text is in src/lib.rt 0 times: n * 3"})
+
+    def test_two_mutants_of_one_name(self):
+        self.write("crates/high/must-fail/by-four.edit", FILES["crates/high/edits/by-four.edit"])
+        self.assertIn("two mutants", self.faults()["by-four"])
+
+    def test_edits_that_change_nothing_or_name_no_file(self):
+        for text, why in (
             ("file: src/lib.rt\n", "changes nothing"),
             (edit("n * 3", "n * 3"), "changes nothing"),
             ("file: src/gone.rt\nold: a\nnew: b\n", "no file"),
