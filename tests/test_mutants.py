@@ -18,8 +18,9 @@ sys.dont_write_bytecode = True
 sys.path.insert(0, str(TOP / "tools"))
 from mutation import records, sums  # noqa: E402
 from mutation.edits import Mutant, mutants_of  # noqa: E402
-from mutation.layout import interface  # noqa: E402
+from mutation.parts import interface  # noqa: E402
 from mutation.rooms import Said  # noqa: E402
+from source import Source  # noqa: E402
 
 LOW = """//! The lower crate.
 ghost use Rattle.low.specs.Number.{two};
@@ -35,7 +36,21 @@ const fn start() -> u8 {
 pub fn low(n: u8) -> u8
     ensures { result ≡ two }
 {
-    n / 2
+    n / 2 // a half
+}
+
+fn halved(n: u8) -> u8
+    ensures { result ≡ n }
+{
+    let text = "// halved"; halved + text
+}
+
+macro_rules! made {
+    ($name:ident) => {
+        fn made() {
+            let text = "made by a macro";
+        }
+    };
 }
 """
 HIGH = """//! The higher crate.
@@ -49,7 +64,17 @@ pub fn high(n: u8) -> u8
     twice
 }
 
+impl PartialEq for Thing {
+    fn eq(&self, other: &Thing) -> bool {
+        true
+    }
+}
+
 impl Thing {
+    fn quiet(&self) -> bool {
+        false
+    }
+
     /// Another.
     pub fn other(&self, n: u8) -> u8 {
         let n = n + 0;
@@ -167,6 +192,11 @@ class OfSums(Repository):
         for path, old, new, wanted in (
             (low, "n / 2", "n / 3", set()),
             (low, "/// A number.", "/// Any number.", set()),
+            (low, "// a half", "// one half", set()),
+            (low, "fn halved(n: u8) -> u8\n    ensures { result ≡ n }", "fn halves(n: u8) -> u8\n    ensures { result ≤ n }", set()),
+            (low, "made by a macro", "made by another macro", both),
+            (high, "fn quiet(", "fn silent(", both),
+            (high, "        false\n", "        true\n", set()),
             (low, "result ≡ two", "result ≤ two", both),
             (low, "    1\n", "    2\n", both),
             (low, "pub const START", "pub static START", both),
@@ -200,12 +230,15 @@ class OfSums(Repository):
         self.assertEqual(self.changed("crates/high/src/lib.rt", "    twice\n", "    twice + 0\n"), {"thrice", "a-sum"})
 
     def test_interface_has_no_bodies(self):
-        text = interface(LOW)
-        self.assertNotIn("    n / 2", text)
-        self.assertIn("    ensures { result ≡ two }", text)
-        self.assertIn("    1", text)
-        self.assertIn("    pub fn other(&self, n: u8) -> u8 {", interface(HIGH))
-        self.assertNotIn("        n * 3", interface(HIGH))
+        for is_below in (False, True):
+            low, high = (interface(Source(Path("lib.rt"), text), is_below) for text in (LOW, HIGH))
+            for text, part in ((low, "n / 2"), (low, "halved +"), (low, "tactic"), (low, "// "), (high, "n * 3")):
+                self.assertNotIn(part, text)
+            stated = (low, "result ≡ two"), (low, "    1\n"), (low, "made by a macro"), (high, "pub fn other(&self"), (high, "fn eq")
+            for text, part in stated:
+                self.assertIn(part, text)
+            self.assertEqual("fn halved(" in low, not is_below)
+            self.assertEqual("fn quiet(" in high, not is_below)
 
 
 class OfRecords(Repository):
@@ -250,7 +283,7 @@ class OfRecords(Repository):
 
     def test_text_of_a_mutant_is_gone(self):
         self.change("crates/high/src/lib.rt", "n * 3", "n * 7")
-        self.assertEqual(self.faults(), {"by-four": "its text is in src/lib.rt 0 times: n * 3"})
+        self.assertEqual(self.faults(), {"by-four": "its text is 0 times in its file: n * 3"})
 
     def test_two_mutants_of_one_name(self):
         self.write("crates/high/must-fail/by-four.edit", FILES["crates/high/edits/by-four.edit"])
@@ -262,6 +295,7 @@ class OfRecords(Repository):
             (edit("n * 3", "n * 3"), "changes nothing"),
             ("file: src/gone.rt\nold: a\nnew: b\n", "no file"),
             ("old: a\nnew: b\n", "no file"),
+            ("", "is empty"),
             ("file: src/../../low/src/lib.rt\nold: n / 2\nnew: n\n", "no file"),
         ):
             self.write("crates/high/edits/by-four.edit", text)
@@ -340,6 +374,7 @@ class OfCommand(Repository):
         for path in (".ci/mutants", "tools/kit.py"):
             (self.top / path).parent.mkdir(exist_ok=True)
             shutil.copy(TOP / path, self.top / path)
+        shutil.copy(TOP / "tools/source.py", self.top / "tools/source.py")
         shutil.copytree(TOP / "tools/mutation", self.top / "tools/mutation")
         self.write("kit/bin/rt", "")
         self.write("kit/bin/rtlib.py", RTLIB)
@@ -349,7 +384,8 @@ class OfCommand(Repository):
             (self.top / "kit/bin" / name).chmod(0o755)
         self.write("crates/low/out/rlib/it.rlib/format", "")
         self.write("crates/low/out/rlib/stamp", LOW)
-        self.words = {**os.environ, "PATH": f"{self.top}/kit/bin:{os.environ['PATH']}"}
+        # A run that is killed leaves its room.
+        self.words = {**os.environ, "TMPDIR": self.place.name, "PATH": f"{self.top}/kit/bin:{os.environ['PATH']}"}
         self.crate = self.top / "crates/high"
 
     def run_it(self, *words):

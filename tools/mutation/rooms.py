@@ -15,7 +15,8 @@ from collections import namedtuple
 from pathlib import Path
 
 from mutation.edits import PARTS
-from mutation.layout import method_at
+from mutation.parts import method_at
+from source import Source
 
 HOLE = """-- Taken as stated.
 use Rattle.{crate}.proofs.{path}.Statement.{{statement}}
@@ -98,8 +99,9 @@ class Said:
         for path, goal, why in ERROR.findall(text):
             self.errors.append((tuple(path.split("/")), goal, why))
         for file, line, goal, more in NOTE.findall(text):
-            source = (room / file).read_text()
-            place = sum(map(len, source.splitlines(keepends=True)[: int(line) - 1])) + 1
+            source = Source(room / file, (room / file).read_text(encoding="utf-8"))
+            place = sum(map(len, source.text.splitlines(keepends=True)[: int(line) - 1]))
+            place += len(source.text[place:]) - len(source.text[place:].lstrip())
             self.notes.append(((room / file, *method_at(source, place)), goal, more))
 
     def named(self, path):
@@ -211,8 +213,8 @@ class Room:
         what another writes."""
         changes = {}
         for mutant in mutants:
-            places = [(mutant.source.index(old), old, new) for old, new in mutant.pairs]
-            changes.setdefault(mutant.place, (mutant.source, []))[1].extend(places)
+            places = [(mutant.source.text.index(old), old, new) for old, new in mutant.pairs]
+            changes.setdefault(mutant.place, (mutant.source.text, []))[1].extend(places)
         for file, (text, places) in changes.items():
             for place, old, new in sorted(places, reverse=True):
                 text = text[:place] + new + text[place + len(old) :]

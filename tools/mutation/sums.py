@@ -3,7 +3,7 @@
 A proof takes every other function by its contract: the toolchain keeps a function's code and its proof from all others, in its
 crate and above it (`rattle help check`: "private to the function"). So the sum is of
 - the toolchain's version, and the lines of crates.txt of the crate and of those below it;
-- the sources of these crates without the bodies of functions and without comments (tools/mutation/layout.py): signatures, clauses,
+- the sources of these crates without the bodies of functions and without comments (tools/mutation/parts.py): signatures, clauses,
   types, constants, traits, macros; and all their specs;
 - the lemma files of proofs/ that these cite, and the files that those cite;
 - the mutant's own text, the function that it changes with its body, the files of its proof, and the lemma files that they cite.
@@ -17,10 +17,11 @@ import re
 from pathlib import Path
 
 from mutation.edits import PARTS
-from mutation.layout import function_text, interface, lines_of
+from mutation.parts import function_text, interface, without
+from source import crates, sources
 
 # Changes whenever what a sum is of changes.
-FORM = "1"
+FORM = "2"
 CITED = re.compile(r"\bRattle\.(\w+)\.proofs\.([^\s{};,()]+)|\b(crate)::proofs::([\w:]+)")
 # What a function's own proof is written in, in proofs/PATH/.
 OF_FUNCTIONS = ("Answers.antt", "Invariants.antt", "Proof.antt")
@@ -35,28 +36,34 @@ def digest(*parts):
     return found.hexdigest()
 
 
-def listed(top):
-    """The lines of crates.txt, by the crate, each with the crates of the repository that it uses."""
-    lines = {}
-    for line in (top / "crates.txt").read_text(encoding="utf-8").splitlines():
-        head, colon, uses = line.partition("#")[0].partition(":")
-        if colon:
-            lines[head.split()[0]] = " ".join([*head.split(), *sorted(uses.split())]), uses.split()
-    return {name: (line, [use for use in uses if use in lines]) for name, (line, uses) in lines.items()}
+def antt(file):
+    """A definition or proof file without comments and blank lines."""
+    lines = file.read_text(encoding="utf-8").split("\n")
+    return "\n".join(line for line in lines if line.strip() and not line.lstrip().startswith("--"))
 
 
 class Crate:
     """What others read of a crate, and the files of its proofs."""
 
-    def __init__(self, folder):
-        self.folder, self.name = folder, folder.name
-        self.stated = self.lines("src", "*.rt", interface) | self.lines("specs", "*.antt", lambda text: lines_of(text, ".antt"))
-        self.proofs = self.lines("proofs", "*.antt", lambda text: lines_of(text, ".antt"))
+    def __init__(self, top, name):
+        self.folder, self.name = top / "crates" / name, name
+        self.sources = list(sources(name, top))
+        self.specs, self.proofs = self.files("specs"), self.files("proofs")
 
-    def lines(self, part, kind, form):
-        """The lines of the files of a part, by their paths."""
-        files = sorted((self.folder / part).rglob(kind))
-        return {file.relative_to(self.folder).as_posix(): form(file.read_text(encoding="utf-8")) for file in files}
+    def files(self, part):
+        """The texts of the files of a part in antt, by their paths."""
+        files = sorted((self.folder / part).rglob("*.antt"))
+        return {file.relative_to(self.folder).as_posix(): antt(file) for file in files}
+
+    def stated(self, is_below):
+        """What the crate states, for itself or for crates above, by the paths of the files."""
+        found = {one.path.relative_to(self.folder).as_posix(): interface(one, is_below) for one in self.sources}
+        return found | self.specs | {name: self.proofs[name] for name in self.loose()}
+
+    def whole(self):
+        """All sources and proofs."""
+        found = {one.path.relative_to(self.folder).as_posix(): without(one.text, []) for one in self.sources}
+        return found | self.proofs
 
     def cited(self, path):
         """The files that a module's name can lead to."""
@@ -85,12 +92,21 @@ class Sums:
     """The sums of the mutants of a repository."""
 
     def __init__(self, top, version):
-        self.top, self.version, self.listed, self.crates, self.bases = top, version, listed(top), {}, {}
+        self.top, self.version, self.crates, self.texts, self.bases = top, version, {}, {}, {}
+        self.listed = {crate.name: crate for crate in crates(top)}
 
     def crate(self, name):
         if name not in self.crates:
-            self.crates[name] = Crate(self.top / "crates" / name)
+            self.crates[name] = Crate(self.top, name)
         return self.crates[name]
+
+    def stated(self, name, is_below):
+        """What a crate states, for itself or for crates above, with its line of crates.txt."""
+        if (name, is_below) not in self.texts:
+            listed = self.listed.get(name)
+            line = " ".join([name, *listed.marks, *sorted(listed.uses)]) if listed else name
+            self.texts[name, is_below] = self.crate(name).stated(is_below) | {"crates.txt": line}
+        return self.texts[name, is_below]
 
     def below(self, name):
         """A crate with all that it uses, in the order of their names."""
@@ -99,7 +115,7 @@ class Sums:
             at = left.pop()
             if at not in found:
                 found.add(at)
-                left += self.listed.get(at, ("", []))[1]
+                left += [use for use in self.listed[at].uses if use in self.listed] if at in self.listed else []
         return sorted(found)
 
     def touched(self, name):
@@ -117,7 +133,7 @@ class Sums:
                 name = at if here else one
                 for file in self.crate(name).cited(path or inner) if name in self.listed else []:
                     if (name, file) not in found:
-                        found[name, file] = "\n".join(self.crate(name).proofs[file])
+                        found[name, file] = self.crate(name).proofs[file]
                         left.append((name, found[name, file]))
         return found
 
@@ -126,10 +142,8 @@ class Sums:
         if name not in self.bases:
             parts, lemmas = [FORM, self.version], {}
             for it in self.below(name):
-                crate = self.crate(it)
-                texts = {path: "\n".join(lines) for path, lines in crate.stated.items()}
-                texts |= {path: "\n".join(crate.proofs[path]) for path in crate.loose()}
-                parts += [self.listed.get(it, (it, []))[0], *(word for pair in texts.items() for word in pair)]
+                texts = self.stated(it, it != name)
+                parts += [it, *(word for pair in texts.items() for word in pair)]
                 lemmas |= self.lemmas(it, texts.values())
             self.bases[name] = digest(*parts, *spread(lemmas)), lemmas
         return self.bases[name]
@@ -137,14 +151,16 @@ class Sums:
     def of(self, mutant):
         """The sum of a mutant that can be tried."""
         crate, (base, known) = self.crate(mutant.crate), self.base(mutant.crate)
-        if mutant.function:
-            text = function_text(mutant.source, mutant.source.index(mutant.pairs[0][0]))
-            own = {("", name): "\n".join(crate.proofs[name]) for name in crate.proof_of(mutant)} | {("", "body"): "\n".join(text)}
-        else:
-            whole = crate.lines("src", "*.rt", lambda text: lines_of(text, ".rt")) | crate.proofs
-            own = {("", name): "\n".join(lines) for name, lines in whole.items()}
+        own = {("", name): text for name, text in self.own(crate, mutant).items()}
         lemmas = {key: text for key, text in self.lemmas(crate.name, own.values()).items() if key not in known}
         return digest(base, mutant.name, mutant.text, *spread(own), *spread(lemmas))
+
+    def own(self, crate, mutant):
+        """What the verdict on one mutant rests on in its crate, beside what the crate states."""
+        if not mutant.function:
+            return crate.whole()
+        function = mutant.source.function_at(mutant.source.text.index(mutant.pairs[0][0]))
+        return {name: crate.proofs[name] for name in crate.proof_of(mutant)} | {"": function_text(mutant.source, function)}
 
 
 def spread(texts):
