@@ -421,6 +421,8 @@ class OfCommand(Repository):
             self.assertIn("not built from these sources: low", said)
         (self.top / "crates/low/out/rlib/stamp").unlink()
         self.assertEqual((self.run_it("high")[0], self.run_it("--record")[0]), (0, 2))
+        (self.top / "crates/low/out/rlib/it.rlib/format").unlink()
+        self.assertEqual(self.run_it("--record")[0], 0)
 
     def test_a_source_that_changes_meanwhile(self):
         self.write("kit/bin/rattle", RATTLE + f"\npathlib.Path('{self.crate}/src/lib.rt').touch()\n")

@@ -132,13 +132,20 @@ class Said:
         return None if paths & set(self.failed) else Outcome(PROVED, [], "")
 
 
+def is_newer(library):
+    """Whether a library was put in its place after the last change of its sources. A copy of it that keeps its times is not."""
+    folders = [Path(it.folder, part) for it in [*library.below(), library] for part in PARTS]
+    times = [file.lstat().st_ctime for folder in folders if folder.is_dir() for file in (folder, *folder.rglob("*"))]
+    return max(times, default=0) < os.stat(library.rlib).st_mtime
+
+
 def unusable(crate, text_of, is_recording):
     """The libraries below a crate that are not built, or not from the sources that are there now. `rt ci` leaves libraries without
-    a stamp: what those were built from is not known later."""
+    a stamp, of which only the times tell."""
     found = []
     for it in crate.below():
         stamp = text_of(f"{os.path.dirname(it.rlib)}/stamp")
-        if not os.path.isdir(it.rlib) or (stamp or is_recording) and stamp != it.stamp():
+        if not os.path.isdir(it.rlib) or (stamp != it.stamp() if stamp else is_recording and not is_newer(it)):
             found.append(it.name)
     if crate.makes_rlib() and not os.path.isdir(crate.rlib):
         found.append(crate.name)
