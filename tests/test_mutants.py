@@ -249,7 +249,7 @@ class OfRecords(Repository):
         self.crate = self.top / "crates/high"
         self.file = self.crate / "mutants.record"
         for name, total in self.sums().items():
-            records.keep(self.crate, name, records.record_of(name, total, ["returns", "a goal"]), {"thrice", "by-four"})
+            records.keep(self.crate, {"thrice", "by-four"}, {name: records.record_of(name, total, ["returns", "a goal"])})
         self.text = self.file.read_text(encoding="utf-8")
 
     def faults(self):
@@ -302,27 +302,27 @@ class OfRecords(Repository):
             self.assertIn(why, self.faults()["by-four"])
 
     def test_a_mutant_that_is_gone_loses_its_record(self):
-        records.keep(self.crate, "thrice", self.text.splitlines()[1], {"thrice"})
+        records.keep(self.crate, {"thrice"}, {})
         self.assertEqual(self.file.read_text(encoding="utf-8"), self.text.splitlines(keepends=True)[1])
 
     def test_the_last_record_goes_with_its_file(self):
-        records.keep(self.crate, "thrice", "", set())
+        records.keep(self.crate, {"thrice"}, {"thrice": ""})
         self.assertFalse(self.file.exists())
 
     def test_a_full_disk_leaves_the_old_file(self):
         with mock.patch.object(records.os, "fsync", side_effect=OSError(errno.ENOSPC, "No space left on device")):
             with self.assertRaises(OSError):
-                records.keep(self.crate, "thrice", "", {"thrice", "by-four"})
+                records.keep(self.crate, {"thrice", "by-four"}, {"thrice": ""})
         self.assertEqual(self.file.read_text(encoding="utf-8"), self.text)
         self.assertEqual(list((self.crate / "out").glob("record-*")), [])
 
     def test_killed_while_it_writes(self):
         program = "import sys, os; sys.path.insert(0, sys.argv[1]); from mutation import records; from pathlib import Path\n"
-        program += "os.replace = lambda *_: os.kill(os.getpid(), 9)\nrecords.keep(Path(sys.argv[2]), 'thrice', '', {'by-four'})"
+        program += "os.replace = lambda *_: os.kill(os.getpid(), 9)\nrecords.keep(Path(sys.argv[2]), {'by-four'}, {})"
         ran = subprocess.run([sys.executable, "-B", "-c", program, TOP / "tools", self.crate], check=False)
         self.assertEqual(ran.returncode, -signal.SIGKILL)
         self.assertEqual(self.file.read_text(encoding="utf-8"), self.text)
-        records.keep(self.crate, "thrice", "", {"by-four"})
+        records.keep(self.crate, {"by-four"}, {})
         self.assertEqual(self.file.read_text(encoding="utf-8"), self.text.splitlines(keepends=True)[0])
 
 
@@ -404,7 +404,11 @@ class OfCommand(Repository):
         status, said = self.run_it("--record", "--lanes", "2")
         self.assertEqual((status, said.count("refused   ")), (0, 2), said)
         self.assertEqual(self.run_it("--check-records")[0], 0)
+        with (self.crate / "mutants.record").open("a", encoding="utf-8") as file:
+            file.write("zeros 0000 returns\n<<<<<<<\n")
+        self.assertEqual(self.run_it("--check-records")[0], 1)
         self.assertIn("no mutant to try", self.run_it("--record")[1])
+        self.assertEqual(self.run_it("--check-records")[0], 0)
         self.change("crates/high/src/lib.rt", "    twice\n", "    twice + 0\n")
         status, said = self.run_it("--check-records")
         self.assertEqual(status, 1)

@@ -69,14 +69,16 @@ def write_records(crate, lines):
         raise
 
 
-def keep(crate, name, line, known):
-    """Writes the record of one mutant, or with no line removes it. Mutants that are gone lose their records. Other runs may write
-    to the same file: it is read again, and one run at a time replaces it."""
+def keep(crate, known, changes):
+    """Writes the records of mutants, removes those that have no line, and those of mutants that are not known. Other runs may
+    write to the same file: it is read again, and one run at a time replaces it."""
     (crate / "out").mkdir(exist_ok=True)
     with open(crate / "out/record.lock", "w", encoding="utf-8") as lock:
         fcntl.flock(lock, fcntl.LOCK_EX)
-        lines = {it: found for it, found in read_records(crate)[0].items() if it in known and it != name}
-        write_records(crate, lines | ({name: line} if line else {}))
+        found, faults = read_records(crate)
+        lines = {name: line for name, line in (found | changes).items() if line and name in known}
+        if faults or lines != found:
+            write_records(crate, lines)
 
 
 def fault_of(mutant, line, sums):
