@@ -329,12 +329,19 @@ class OfRecords(Repository):
 class OfChecks(unittest.TestCase):
     """How the words of a check are read."""
 
+    def setUp(self):
+        place = tempfile.TemporaryDirectory()
+        self.addCleanup(place.cleanup)
+        self.place = Path(place.name)
+        (self.place / "src").mkdir()
+        (self.place / "src/lib.rt").write_text(HIGH, encoding="utf-8")
+
+    def said(self, *lines, last="only=1 holes=1"):
+        return Said(1, "\n".join([*lines, last]), self.place)
+
     def outcome(self, *lines, last="only=1 holes=1"):
-        with tempfile.TemporaryDirectory() as place:
-            Path(place, "src").mkdir()
-            Path(place, "src/lib.rt").write_text(HIGH, encoding="utf-8")
-            said = Said(1, "\n".join([*lines, last]), Path(place))
-            return said.fault or said.outcome({("high",)}, (Path(place, "src/lib.rt"), "high", None))
+        said = self.said(*lines, last=last)
+        return said.fault or said.outcome({("high",)}, (self.place / "src/lib.rt", "high", None))
 
     NOTE = "note: src/lib.rt:8:5: it is not proved that what the function ensures holds when it returns (`returns-then`)"
     FALSE = "; the facts known there allow values at which this goal is false"
@@ -353,6 +360,11 @@ class OfChecks(unittest.TestCase):
             found = self.outcome(*lines)
             self.assertEqual((found.verdict, found.goals), ("not-tried", []))
             self.assertIn("names what the edit took away", found.why)
+
+    def test_a_lemma_is_refused(self):
+        said = self.said(self.WRONG.replace("high/Answers", "Lemmas"), self.MISSING.replace("has no field", "was not admitted"))
+        self.assertEqual(said.outcome(set(), None).goals, ["returns"])
+        self.assertEqual(said.outcome({("there",)}, (Path("lib.rt"), "there", None)).verdict, "proved")
 
     def test_let_through(self):
         self.assertEqual(self.outcome(last="only=1 proved=1").verdict, "proved")

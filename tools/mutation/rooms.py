@@ -26,8 +26,8 @@ pub {name}_spec : {{M : Type 1}} → statement M
 """
 NOTE = re.compile(r"^note: (src/\S+\.rt):(\d+):\d+: .*? \(`([^`]+)`\)(.*)", re.MULTILINE)
 UNPROVED = re.compile(r"^fn (\S+): ((?:not proved|no proof|could not tell).*)", re.MULTILINE)
-# An answer of a function's proof that is refused.
-ERROR = re.compile(r"^(?:\./)?proofs/(\S+)/\w+\.antt:\d+:\d+: error: (?:`([^`]+)`: )?(.*)", re.MULTILINE)
+# An answer of a function's proof, or a lemma, that is refused.
+ERROR = re.compile(r"^(?:\./)?proofs/(\S+)\.antt:\d+:\d+: error: (?:`([^`]+)`: )?(.*)", re.MULTILINE)
 # What the edit took away has a name that the answer needs: that says nothing of the contract.
 MISSING = re.compile(r"has no field|is not in scope|is no name|has no `|was not admitted")
 FALSE = "the facts known there allow values at which this goal is false"
@@ -91,13 +91,13 @@ class Said:
     """What a check says: of each function that is not proved, of each refused answer, and of each goal that is open."""
 
     def __init__(self, status, text, room):
-        self.failed, self.errors, self.notes = {}, [], []
+        self.failed, self.errors, self.notes, self.is_proved = {}, [], [], status == 0
         last = text.rstrip("\n").split("\n")[-1]
         self.fault = "" if last.startswith(("only=", "logic=")) else why_no_verdict(status, text)
         for path, verdict in UNPROVED.findall(text):
             self.failed[tuple(path.split("::")[1:])] = verdict
         for path, goal, why in ERROR.findall(text):
-            self.errors.append((tuple(path.split("/")), goal, why))
+            self.errors.append((tuple(path.split("/")[:-1]), goal, why))
         for file, line, goal, more in NOTE.findall(text):
             source = Source(room / file, (room / file).read_text(encoding="utf-8"))
             place = sum(map(len, source.text.splitlines(keepends=True)[: int(line) - 1]))
@@ -114,10 +114,11 @@ class Said:
         return goals
 
     def outcome(self, paths, place):
-        """How a mutant in these functions ended; None if they are not proved, and another function may be the reason. A goal
-        counts whose answer was read and refused, or that no answer was written for; if names are missing that answers need, only
-        one that is false."""
-        errors = [(goal, why) for path, goal, why in self.errors if any(path[: len(it)] == it for it in paths)]
+        """How a mutant in these functions ended; None if they are not proved, and another function may be the reason. With no
+        place, lemmas count too. A goal counts whose answer was read and refused, or that no answer was written for; if names are
+        missing that answers need, only one that is false."""
+        ours = [(path, goal, why) for path, goal, why in self.errors if place is None or any(path[: len(it)] == it for it in paths)]
+        errors = [(goal, why) for _, goal, why in ours]
         missing = [why for _, why in errors if MISSING.search(why)]
         open_goals = [(goal, more) for where, goal, more in self.notes if place is None or where == place]
         sound = [goal for goal, why in errors if goal and not MISSING.search(why)]
@@ -307,7 +308,9 @@ class Room:
         said = self.check_with([mutant], *flags)
         if said.fault:
             return not_tried(said.fault)
-        return said.outcome(set(said.failed), None) or not_tried("a function is not proved, and no goal of it is named")
+        found = said.outcome(set(said.failed), None)
+        is_told = found and (found.verdict != PROVED or flags or said.is_proved)
+        return found if is_told else not_tried("the crate is not proved, and no goal is named")
 
 
 def try_share(crate, checks, mutants, has_control):
