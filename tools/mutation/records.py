@@ -13,6 +13,7 @@ from mutation.sums import digest
 
 LINE = re.compile(r"([A-Za-z0-9_][A-Za-z0-9_.-]*) ([0-9a-f]{40})((?: \S+){1,3})")
 MOST_GOALS = 3
+NO_RECORD = "no record"
 
 
 def sealed(total, goals):
@@ -86,7 +87,7 @@ def fault_of(mutant, line, sums):
     if mutant.fault:
         return mutant.fault
     if not line:
-        return "no record"
+        return NO_RECORD
     _, found, *goals = line.split(" ")
     return "" if found == sealed(sums.of(mutant), goals) else "changed since it was tried, or its record was edited"
 
