@@ -46,7 +46,7 @@ def number_of(value):
 
 
 def block_of(first, count, codes, flight=1, engine=ENGINE):
-    """A block of so many entries, in codes."""
+    """A block of `count` entries, in codes."""
     profile, apid, pool, entries, octets = engine
     fields = ((profile, 1), (apid, 2), (pool, 2), (entries, 4), (octets, 4), (flight, 8), (first, 8), (count, 4), (len(codes), 4))
     head = record_of(b"OCPJ\2" + b"".join(number.to_bytes(length, "big") for number, length in fields))

@@ -41,7 +41,7 @@ def _moves():
 
 
 def _moved(rest, size):
-    """What a remainder becomes after so many octets of zeros, below 131,072."""
+    """What a remainder becomes after a number of octets of zeros, below 131,072."""
     for low, high in _moves():
         if size & 1:
             rest = low[rest & 255] ^ high[rest >> 8]

@@ -19,7 +19,7 @@ RUNS = float(os.environ.get("OCP_RUNS", "1"))
 
 
 def scaled(count: int) -> int:
-    """So many runs, or seconds, as OCP_RUNS asks for in place of these."""
+    """The runs, or seconds, that OCP_RUNS asks for in place of these."""
     return max(1, round(count * RUNS))
 
 
