@@ -4,9 +4,10 @@
  * the library's alone. `counted` and the functions `outside_..` are in worst_x86_64.S and worst_aarch64.S; the library is linked
  * with its calls of `memcpy` and the others renamed to those. A line for each call that the plan marks:
  *
- *   status instructions stack copied calls-of-memory calls-of-the-heap
+ *   status instructions stack copied calls-of-memory calls-of-the-heap number
  *
- * `instructions` is 0 if the processor does not count them (callgrind does, for x86-64). */
+ * `instructions` is 0 if the processor does not count them (callgrind does, for x86-64). `number` is how many
+ * reports a drain made, or of how many octets an entry is. */
 #include "ocp_engine.h"
 
 #define memcpy heap_memcpy
@@ -48,9 +49,20 @@ static uint64_t uncounted(uint64_t *words)
 
 /* ---- what the library calls */
 
+/* What is copied at once. These functions are not counted, but callgrind takes long for each of their instructions. A bare board
+ * may refuse a word at an odd place. */
+#ifdef BARE
+typedef uint8_t piece;
+#else
+typedef uint64_t __attribute__((aligned(1), may_alias)) piece;
+#endif
+
 void *heap_memcpy(void *to, const void *from, size_t octets)
 {
-    for (size_t at = 0; at < octets; at++)
+    size_t at = 0;
+    for (; at + sizeof(piece) <= octets; at += sizeof(piece))
+        *(piece *)((uint8_t *)to + at) = *(const piece *)((const uint8_t *)from + at);
+    for (; at < octets; at++)
         ((uint8_t *)to)[at] = ((const uint8_t *)from)[at];
     return to;
 }
@@ -77,7 +89,10 @@ void *own_memset(void *to, int octet, size_t octets)
 {
     outside.calls++;
     outside.copied += octets;
-    for (size_t at = 0; at < octets; at++)
+    size_t at = 0;
+    for (; at + sizeof(piece) <= octets; at += sizeof(piece))
+        *(piece *)((uint8_t *)to + at) = (piece)((uint8_t)octet * UINT64_C(0x0101010101010101));
+    for (; at < octets; at++)
         ((uint8_t *)to)[at] = (uint8_t)octet;
     return to;
 }
@@ -150,7 +165,7 @@ struct step {
 };
 
 enum { END, OPEN, CLOSE, REQUEST, DRAIN, SLICE, STEP, NEXT, SET_BREAK, CLEAR_BREAK, TRACE, MEMORY, VIEW, POOL_WORD, EVENTS, ROOM,
-       ENTRY, NOTHING, PUT_WORD, ROUND, FIRST_ENTRY, RELEASE, TRACE_RECORD, VERSION, SIZE };
+       ENTRY, NOTHING, PUT_WORD, ROUND, FIRST_ENTRY, RELEASE, TRACE_RECORD, VERSION, SIZE, MAKE_ROOM };
 
 enum { ANY = 255 }; /* in place of a status: each is right */
 
@@ -164,9 +179,7 @@ static struct ocp_trace_record record;
 static struct ocp_outcome outcome;
 static struct ocp_view view;
 static uint32_t count;
-#ifdef HAS_ROUND
 static uint32_t ended; /* the step that ended a round */
-#endif
 static uint16_t id;
 
 void nothing(void);
@@ -200,12 +213,8 @@ static void words_of(const struct step *step, uint64_t *words)
         [VERSION] = {WORD(ocp_version)},
         [SIZE] = {WORD(ocp_size), step->a, step->b, step->c, step->d},
         [ENTRY] = {WORD(ocp_entry), own, step->a, WORD(octets), sizeof octets, WORD(&written)},
-#ifdef HAS_PUT_WORD
         [PUT_WORD] = {WORD(ocp_put_word), own, step->a, step->b},
-#endif
-#ifdef HAS_ROUND
         [ROUND] = {WORD(ocp_round), own, step->a, step->b, WORD(&count), WORD(&outcome), WORD(&ended)},
-#endif
         /* A further call of the header has its row here, its number in the enumeration and in `CALLS` of the script. */
         [NOTHING] = {step->a == 0 ? WORD(nothing) : WORD(copies_nothing)},
     };
@@ -213,10 +222,43 @@ static void words_of(const struct step *step, uint64_t *words)
         words[at] = all[step->call][at];
 }
 
+/* Releases entries until there is room for one more of so many octets, if there is ever. */
+static void make_room(uint64_t wanted)
+{
+    while (ocp_room(&engine, &wide, &other) == OCP_DONE && (wide == 0 || other < wanted) && ocp_release(&engine, 1) == OCP_DONE)
+        ;
+}
+
+/* How many packets a buffer has. */
+static uint64_t packets_in(const uint8_t *packets, size_t length)
+{
+    uint64_t number = 0;
+    for (size_t at = 0; at < length; number++)
+        at += 7 + 256 * packets[at + 4] + packets[at + 5];
+    return number;
+}
+
+static uint64_t number_of(const struct step *step)
+{
+    return step->call == DRAIN ? packets_in(reports, written) : step->call == ENTRY ? written : 0;
+}
+
+/* An entry's index is counted from the oldest that is held, if the step says so. */
+static void from_the_oldest(const struct step *step, uint64_t *words)
+{
+    if (step->call == ENTRY && step->b == 1 && ocp_first_entry(&engine, &wide) == OCP_DONE)
+        words[2] += wide;
+}
+
 static bool make(const struct step *step)
 {
     uint64_t words[8];
+    if (step->call == MAKE_ROOM) {
+        make_room(step->a);
+        return true;
+    }
     words_of(step, words);
+    from_the_oldest(step, words);
     outside.copied = outside.calls = outside.heap_calls = 0;
     uint64_t instructions = step->marked ? counted(words) : uncounted(words);
     uint32_t status = (uint32_t)words[0];
@@ -227,7 +269,7 @@ static bool make(const struct step *step)
         for (size_t at = untouched; at < STACK; at++)
             stacks[STACK + at] = PATTERN;
         const uint64_t said[] = {status, instructions, (STACK - untouched) * sizeof *stacks, outside.copied, outside.calls,
-                                 outside.heap_calls};
+                                 outside.heap_calls, status == OCP_DONE ? number_of(step) : 0};
         for (size_t at = 0; at < sizeof said / sizeof *said; at++)
             put_number(said[at]);
         end_line();
