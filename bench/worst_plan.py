@@ -43,8 +43,8 @@ class Plan:
     def __init__(self, profile, split=None):
         self.profile, self.split, self.octets, self.names, self.count = profile, split, bytearray(), [], 0
         self.calls, self.steps = [], []  # the calls of the names, and all steps for a message
-        # Of the store: its size in octets and entries, the lengths of those that are held, and where the next one begins.
-        self.capacity, self.entries, self.held, self.end_at = 0, 0, [], 0
+        # Of the store: its size in octets and entries, the lengths of those that are held and their sum, where the next one begins.
+        self.capacity, self.entries, self.held, self.used, self.end_at = 0, 0, [], 0, 0
         for number, name in enumerate(("nothing", "copies nothing")):  # what counting itself takes
             self.make(NOTHING, number, name=(name,))
 
@@ -69,12 +69,14 @@ class Plan:
 
     def enter(self, length):
         """Notes an entry, and releases all others before if there is no room for it."""
-        if len(self.held) == self.entries or sum(self.held) + length > self.capacity:
+        if len(self.held) == self.entries or self.used + length > self.capacity:
             self.release(len(self.held))
-        self.held, self.end_at = [*self.held, length], (self.end_at + length) % self.capacity
+        self.held.append(length)
+        self.used, self.end_at = self.used + length, (self.end_at + length) % self.capacity
 
     def release(self, count):
-        self.held = self.held[count:]
+        self.used -= sum(self.held[:count])
+        del self.held[:count]
         self.make(RELEASE, count)
 
     def fill_up_to(self, place):
@@ -86,7 +88,7 @@ class Plan:
 
     def open(self, entries=10000, words=POOL_WORDS, octets=OCTETS, name=None):
         self.make(OPEN, self.profile, APID, words, entries, octets, name=name)
-        self.count, self.capacity, self.entries, self.held, self.end_at = 0, octets, entries, [], 0
+        self.count, self.capacity, self.entries, self.held, self.used, self.end_at = 0, octets, entries, [], 0, 0
 
     def close(self, name=None):
         self.make(CLOSE, name=name)
