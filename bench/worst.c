@@ -222,7 +222,7 @@ static void words_of(const struct step *step, uint64_t *words)
         words[at] = all[step->call][at];
 }
 
-/* Releases entries until there is room for one more of so many octets, if there is ever. */
+/* Releases entries until there is room for one more of this length, if there is ever. */
 static void make_room(uint64_t wanted)
 {
     while (ocp_room(&engine, &wide, &other) == OCP_DONE && (wide == 0 || other < wanted) && ocp_release(&engine, 1) == OCP_DONE)
