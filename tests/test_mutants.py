@@ -7,23 +7,19 @@ import shutil
 import signal
 import subprocess
 import sys
-import tempfile
 import time
-import unittest
 from pathlib import Path
 from unittest import mock
 
-TOP = Path(__file__).resolve().parent.parent
-sys.dont_write_bytecode = True
-sys.path.insert(0, str(TOP / "tools"))
-from mutation import records, sums  # noqa: E402
-from mutation.edits import Mutant, mutants_of  # noqa: E402
-from mutation.parts import interface  # noqa: E402
-from mutation.rooms import Said  # noqa: E402
-from source import Source  # noqa: E402
+from support import ROOT, Case
+from mutation import records, sums
+from mutation.edits import Mutant, mutants_of
+from mutation.parts import interface
+from mutation.rooms import Said
+from source import Source
 
 LOW = """//! The lower crate.
-ghost use Rattle.low.specs.Number.{two};
+ghost use Rattle.low.specs.Number.{two, three};
 
 /// A number.
 pub const START: u8 = start();
@@ -32,11 +28,23 @@ const fn start() -> u8 {
     1
 }
 
+/// A number with an invariant.
+pub struct Number {
+    value: u8,
+    ghost invariant = { value ≤ three },
+}
+
 #[tactic(auto, using(crate::proofs::Halves::half))]
-pub fn low(n: u8) -> u8
+pub fn lower(n: u8) -> u8
     ensures { result ≡ two }
 {
-    n / 2 // a half
+    n / START // a half
+}
+
+pub fn unread(n: u8) -> u8
+    ensures { result ≡ three }
+{
+    n
 }
 
 fn halved(n: u8) -> u8
@@ -52,6 +60,7 @@ macro_rules! made {
         }
     };
 }
+made!(one);
 """
 HIGH = """//! The higher crate.
 
@@ -77,11 +86,18 @@ impl Thing {
 
     /// Another.
     pub fn other(&self, n: u8) -> u8 {
-        let n = n + 0;
+        let n = n + lower(0);
         n * 3
     }
 }
+
+use low::{lower, Number};
+pub struct Thing(Number);
 """
+
+
+LOW_FILE, HIGH_FILE, NUMBER = "crates/low/src/lib.rt", "crates/high/src/lib.rt", "crates/low/specs/Number.antt"
+UNREAD = "pub fn unread(m: u8)\n    ensures { m ≡ five }\n{\n}\n\n"
 
 
 def edit(old, new):
@@ -91,14 +107,15 @@ def edit(old, new):
 FILES = {
     "crates.txt": "low:\nhigh: low std_of_kit # a comment\n",
     "crates/low/src/lib.rt": LOW,
-    "crates/low/specs/Number.antt": "-- Two.\npub two : ℕ\ntwo = 2\n",
+    "crates/low/specs/Number.antt": "-- Two.\npub two : ℕ\ntwo = less four\npub four : ℕ\nfour = less six\npub six : ℕ\nsix = 6\n"
+    "pub three : ℕ\nthree = 3\npub five : ℕ\nfive = 5\n",
     "crates/low/proofs/Lib.antt": "pub mod Halves\nmod Unread\n",
-    "crates/low/proofs/Halves.antt": "pub half : ℕ\n",
+    "crates/low/proofs/Halves.antt": "pub half : ℕ\nhalf = 1\npub third : ℕ\nthird = 1\n",
     "crates/low/proofs/Unread.antt": "pub unread : ℕ\n",
-    "crates/low/proofs/low/Answers.antt": "returns c = search\n",
+    "crates/low/proofs/lower/Answers.antt": "returns c = search\n",
     "crates/high/src/lib.rt": HIGH,
     "crates/high/proofs/high/Answers.antt": "use Rattle.high.proofs.Own.{own}\nreturns c = own\n",
-    "crates/high/proofs/Own.antt": "use Rattle.low.proofs.Halves.{half}\npub own : ℕ\n",
+    "crates/high/proofs/Own.antt": "use Rattle.low.proofs.Halves.{half}\npub own : ℕ\nown = half\n",
     "crates/high/proofs/Thing/other/Answers.antt": "returns c = search\n",
     "crates/high/must-fail/thrice.edit": edit("    let twice = n + n;", "    let twice = n + n + n; // REFUSE"),
     "crates/high/edits/by-four.edit": edit("        n * 3", "        n * 4 // REFUSE"),
@@ -129,32 +146,25 @@ else:
 RTLIB = '''import pathlib, sys
 KIT = pathlib.Path(__file__).resolve().parent.parent
 RATTLE = str(KIT / "bin/rattle")
-def guarded():
-    return ["env"]
+guarded = lambda: ["env"]
 class Crate:
     def __init__(self, folder, root, known):
         self.folder, self.name, self.rlib = folder, pathlib.Path(folder).name, folder + "/out/rlib/it.rlib"
-    def words(self, flags, keeps):
-        return flags
-    def below(self):
-        low = pathlib.Path(self.folder).parent / "low"
-        return [Crate(str(low), "", {})] if self.name == "high" else []
-    def makes_rlib(self):
-        return False
-    def stamp(self):
-        return text_of(self.folder + "/src/lib.rt")
+    words = lambda self, flags, keeps: flags
+    below = lambda self: [Crate(self.folder.replace("high", "low"), "", {})] if self.name == "high" else []
+    makes_rlib = lambda self: False
+    stamp = lambda self: text_of(self.folder + "/src/lib.rt")
 def text_of(file):
     return pathlib.Path(file).read_text() if pathlib.Path(file).is_file() else None
 '''
 
 
-class Repository(unittest.TestCase):
+class Repository(Case):
     """A repository in a folder of its own."""
 
     def setUp(self):
-        self.place = tempfile.TemporaryDirectory(prefix="test-mutants-")
-        self.addCleanup(self.place.cleanup)
-        self.top = Path(self.place.name).resolve() / "repository"
+        self.place = self.room()
+        self.top = self.place.resolve() / "repository"
         for path, text in FILES.items():
             self.write(path, text)
 
@@ -173,72 +183,85 @@ class Repository(unittest.TestCase):
         found = sums.Sums(self.top, version)
         return {mutant.name: found.of(mutant) for mutant in mutants_of(self.top / "crates/high")}
 
-
-class OfSums(Repository):
-    """What a sum depends on."""
-
     def changed(self, path, old, new):
         """The mutants whose sum changes with a text."""
-        before = self.sums()
-        kept = (self.top / path).read_text(encoding="utf-8")
+        before, kept = self.sums(), (self.top / path).read_text(encoding="utf-8")
         self.change(path, old, new)
         after = self.sums()
         self.write(path, kept)
         return {name for name in before if before[name] != after[name]}
 
-    def test_what_counts(self):
-        both, high = {"thrice", "by-four"}, "crates/high/src/lib.rt"
-        low = "crates/low/src/lib.rt"
-        for path, old, new, wanted in (
-            (low, "n / 2", "n / 3", set()),
-            (low, "/// A number.", "/// Any number.", set()),
-            (low, "// a half", "// one half", set()),
-            (low, "fn halved(n: u8) -> u8\n    ensures { result ≡ n }", "fn halves(n: u8) -> u8\n    ensures { result ≤ n }", set()),
-            (low, "made by a macro", "made by another macro", both),
-            (high, "fn quiet(", "fn silent(", both),
-            (high, "        false\n", "        true\n", set()),
-            (low, "result ≡ two", "result ≤ two", both),
-            (low, "    1\n", "    2\n", both),
-            (low, "pub const START", "pub static START", both),
-            (low, "using(crate::proofs::Halves::half)", "using(crate::proofs::Unread::unread)", set()),
-            ("crates/low/specs/Number.antt", "two = 2", "two = 3", both),
-            ("crates/low/specs/Number.antt", "-- Two.", "-- A number.", set()),
-            ("crates/low/proofs/low/Answers.antt", "search", "grind", set()),
-            ("crates/low/proofs/Unread.antt", "unread", "other", set()),
-            ("crates/low/proofs/Halves.antt", "half", "third", {"thrice"}),
-            ("crates/high/proofs/Own.antt", "pub own", "pub mine", {"thrice"}),
-            ("crates/high/proofs/high/Answers.antt", "c = own", "c = search", {"thrice"}),
-            ("crates/high/proofs/Thing/other/Answers.antt", "search", "grind", {"by-four"}),
-            (high, "n + 0", "n + 1", {"by-four"}),
-            (high, "    twice\n", "    twice + 0\n", {"thrice"}),
-            (high, "#[tactic(auto)]", "#[tactic(grind)]", {"thrice"}),
-            (high, "/// Another.", "/// One more.", set()),
-            (high, "result ≡ n", "result ≤ n", both),
-            ("crates/high/edits/by-four.edit", "n * 4", "n * 5", {"by-four"}),
-            ("crates.txt", "low:", "low may_wait=1:", both),
-            ("crates.txt", "# a comment", "# another", set()),
-        ):
-            with self.subTest(path=path, old=old):
+
+class OfSums(Repository):
+    """What a sum depends on."""
+
+    def counts(self, wanted, rows):
+        for path, old, new in rows:
+            with self.subTest(path=path, old=old, new=new):
                 self.assertEqual(self.changed(path, old, new), wanted)
 
-    def test_toolchain_counts(self):
-        self.assertNotEqual(self.sums("one"), self.sums("two"))
+    def test_bodies_comments_and_what_no_name_leads_to_do_not_count(self):
+        more = f"ghost use Rattle.low.specs.Number.{{five}};\n{UNREAD.replace('unread', 'added')}pub fn unread"
+        self.counts(set(), (
+            (LOW_FILE, "n / START", "n / 3"), (LOW_FILE, "/// A number.", "/// Any number."), (LOW_FILE, "// a half", "// one half"),
+            (LOW_FILE, "fn halved(n: u8) -> u8\n    ensures { result ≡ n }", "fn halves(n: u8) -> u8\n    ensures { result ≤ n }"),
+            (LOW_FILE, "result ≡ three", "result ≤ three"), (LOW_FILE, "pub fn unread", more),
+            (LOW_FILE, "using(crate::proofs::Halves::half)", "using(crate::proofs::Unread::unread)"),
+            (NUMBER, "-- Two.", "-- A number."), (NUMBER, "five = 5", "five = 4"),
+            (NUMBER, "pub five", "mod Added\npub seven : ℕ\nseven = 7\npub five"),
+            ("crates/low/proofs/lower/Answers.antt", "search", "grind"), ("crates/low/proofs/Unread.antt", "unread", "other"),
+            ("crates/low/proofs/Halves.antt", "third = 1", "third = 3"), (HIGH_FILE, "        false\n", "        true\n"),
+            (HIGH_FILE, "/// Another.", "/// One more."), (HIGH_FILE, "fn quiet(", "fn silent("),
+            ("crates.txt", "# a comment", "# another")))
+
+    def test_what_a_function_calls_and_what_that_names_count(self):
+        self.counts({"by-four"}, (
+            (LOW_FILE, "result ≡ two", "result ≤ two"), (LOW_FILE, "specs.Number.{two", "specs.Other.{two"),
+            (NUMBER, "two = less four", "two = 2"), (NUMBER, "six = 6", "six = 7"), (LOW_FILE, "value ≤ three", "value ≤ two"),
+            (NUMBER, "three = 3", "three = 4"), (HIGH_FILE, "Thing(Number)", "Thing(Number, u8)"),
+            (HIGH_FILE, "-> bool {\n        true", "-> u8 {\n        true"), (HIGH_FILE, "low::{lower,", "low::other::{lower,"),
+            (LOW_FILE, "pub fn unread", f"{UNREAD.replace('unread', 'lower')}pub fn unread")))
+
+    def test_a_function_its_proof_and_the_lemmas_that_it_cites_count(self):
+        self.counts({"thrice"}, (
+            ("crates/low/proofs/Halves.antt", "half = 1", "half = 2"), ("crates/high/proofs/Own.antt", "own = half", "own = third"),
+            ("crates/high/proofs/high/Answers.antt", "c = own", "c = search"), (HIGH_FILE, "    twice\n", "    twice + 0\n"),
+            (HIGH_FILE, "#[tactic(auto)]", "#[tactic(grind)]"), (HIGH_FILE, "result ≡ n", "result ≤ n")))
+        self.counts({"by-four"}, (
+            ("crates/high/proofs/Thing/other/Answers.antt", "search", "grind"), (HIGH_FILE, "n + lower", "n - lower"),
+            ("crates/high/edits/by-four.edit", "n * 4", "n * 5"), ("crates/high/edits/by-four.edit", "n * 4", "unread(n)")))
+
+    def test_what_has_no_name_counts_always(self):
+        self.counts({"thrice", "by-four"}, (
+            (LOW_FILE, "made by a macro", "made by another macro"), (LOW_FILE, "made!(one)", "made!(two)"),
+            (LOW_FILE, "//! The lower", "#![tactic(auto)]\n//! The lower"), (NUMBER, "pub five", "infixl 10 ◌⊕◌\npub five"),
+            (NUMBER, "pub five", "pub ◌⊕◌ : ℕ → ℕ → ℕ\na ⊕ b = a\npub five"), ("crates.txt", "low:", "low may_wait=1:")))
+        self.assertNotEqual(self.sums("one"), self.sums("two"), "the toolchain")
+
+    def test_constants(self):
+        """A constant may have the value of a `const fn`."""
+        self.change(HIGH_FILE, "n + lower(0)", "n + lower(START)")
+        self.change(HIGH_FILE, "low::{", "low::{START, ")
+        self.counts({"by-four"}, ((LOW_FILE, "    1\n", "    2\n"), (LOW_FILE, "pub const START", "pub static START")))
+
+    def test_what_a_mutant_calls(self):
+        self.change("crates/high/edits/by-four.edit", "n * 4", "low::unread(n)")
+        self.counts({"by-four"}, [(LOW_FILE, "result ≡ three", "result ≤ three")])
 
     def test_a_mutant_in_no_function_rests_on_the_whole_crate(self):
         self.write("crates/high/edits/a-sum.edit", edit("impl Thing {", "impl Other {"))
-        self.assertEqual(self.changed("crates/high/proofs/Thing/other/Answers.antt", "search", "grind"), {"by-four", "a-sum"})
-        self.assertEqual(self.changed("crates/high/src/lib.rt", "    twice\n", "    twice + 0\n"), {"thrice", "a-sum"})
+        self.counts({"by-four", "a-sum"}, [("crates/high/proofs/Thing/other/Answers.antt", "search", "grind")])
+        self.counts({"thrice", "a-sum"}, [(HIGH_FILE, "    twice\n", "    twice + 0\n")])
 
     def test_interface_has_no_bodies(self):
         for is_below in (False, True):
             low, high = (interface(Source(Path("lib.rt"), text), is_below) for text in (LOW, HIGH))
-            for text, part in ((low, "n / 2"), (low, "halved +"), (low, "tactic"), (low, "// "), (high, "n * 3")):
-                self.assertNotIn(part, text)
-            stated = (low, "result ≡ two"), (low, "    1\n"), (low, "made by a macro"), (high, "pub fn other(&self"), (high, "fn eq")
-            for text, part in stated:
-                self.assertIn(part, text)
-            self.assertEqual("fn halved(" in low, not is_below)
-            self.assertEqual("fn quiet(" in high, not is_below)
+            for text, part, is_stated in (
+                (low, "n / START", False), (low, "halved +", False), (low, "tactic", False), (low, "// ", False), (high, "n * 3", False),
+                (low, "result ≡ two", True), (low, "    1\n", True), (low, "made by a macro", True), (high, "pub fn other(&self", True),
+                (high, "fn eq", True), (low, "fn halved(", not is_below), (high, "fn quiet(", not is_below),
+            ):
+                self.assertEqual(part in text, is_stated, part)
 
 
 class OfRecords(Repository):
@@ -255,12 +278,9 @@ class OfRecords(Repository):
     def faults(self):
         return dict(records.faults_of(self.crate, mutants_of(self.crate), sums.Sums(self.top, "one")))
 
-    def test_sound_records(self):
-        self.assertEqual(self.faults(), {})
-        self.assertEqual([line.split(" ")[0] for line in self.text.splitlines()], ["by-four", "thrice"])
-
     def test_faults(self):
         first, second = self.text.splitlines(keepends=True)
+        self.assertEqual((self.faults(), first[:8], second[:7]), ({}, "by-four ", "thrice "))
         for text, name, why in (
             (first, "thrice", "no record"),
             (first.replace("returns", "other") + second, "by-four", "edited"),
@@ -272,42 +292,33 @@ class OfRecords(Repository):
             (second + first, "mutants.record", "not in order"),
             (first + first + second, "mutants.record", "each mutant once"),
             ("", "thrice", "no record"),
+            ("\xff\xfe\0", "mutants.record", "not text"),
         ):
             with self.subTest(text=text):
-                self.file.write_text(text, encoding="utf-8")
+                self.file.write_text(text, encoding="latin-1" if "\xff" in text else "utf-8")
                 self.assertIn(why, self.faults().get(name, ""))
 
-    def test_not_text(self):
-        self.file.write_bytes(b"\xff\xfe\0")
-        self.assertIn("not text", self.faults()["mutants.record"])
-
-    def test_text_of_a_mutant_is_gone(self):
-        self.change("crates/high/src/lib.rt", "n * 3", "n * 7")
-        self.assertEqual(self.faults(), {"by-four": "its text is 0 times in its file: n * 3"})
-
-    def test_two_mutants_of_one_name(self):
-        self.write("crates/high/must-fail/by-four.edit", FILES["crates/high/edits/by-four.edit"])
-        self.assertIn("two mutants", self.faults()["by-four"])
-
-    def test_edits_that_change_nothing_or_name_no_file(self):
+    def test_edits_that_cannot_be_tried(self):
         for text, why in (
+            (edit("n * 7", "n * 4"), "its text is 0 times in its file: n * 7"),
             ("file: src/lib.rt\n", "changes nothing"),
             (edit("n * 3", "n * 3"), "changes nothing"),
             ("file: src/gone.rt\nold: a\nnew: b\n", "no file"),
             ("old: a\nnew: b\n", "no file"),
             ("", "is empty"),
-            ("file: src/../../low/src/lib.rt\nold: n / 2\nnew: n\n", "no file"),
+            ("file: src/../../low/src/lib.rt\nold: n / START\nnew: n\n", "no file"),
         ):
             self.write("crates/high/edits/by-four.edit", text)
             self.assertIn(why, self.faults()["by-four"])
+        for kind in ("edits", "must-fail"):
+            self.write(f"crates/high/{kind}/by-four.edit", FILES["crates/high/edits/by-four.edit"])
+        self.assertIn("two mutants", self.faults()["by-four"])
 
     def test_a_mutant_that_is_gone_loses_its_record(self):
         records.keep(self.crate, {"thrice"}, {})
         self.assertEqual(self.file.read_text(encoding="utf-8"), self.text.splitlines(keepends=True)[1])
-
-    def test_the_last_record_goes_with_its_file(self):
         records.keep(self.crate, {"thrice"}, {"thrice": ""})
-        self.assertFalse(self.file.exists())
+        self.assertFalse(self.file.exists(), "the last record goes with its file")
 
     def test_a_full_disk_leaves_the_old_file(self):
         with mock.patch.object(records.os, "fsync", side_effect=OSError(errno.ENOSPC, "No space left on device")):
@@ -319,20 +330,18 @@ class OfRecords(Repository):
     def test_killed_while_it_writes(self):
         program = "import sys, os; sys.path.insert(0, sys.argv[1]); from mutation import records; from pathlib import Path\n"
         program += "os.replace = lambda *_: os.kill(os.getpid(), 9)\nrecords.keep(Path(sys.argv[2]), {'by-four'}, {})"
-        ran = subprocess.run([sys.executable, "-B", "-c", program, TOP / "tools", self.crate], check=False)
+        ran = subprocess.run([sys.executable, "-B", "-c", program, ROOT / "tools", self.crate], check=False)
         self.assertEqual(ran.returncode, -signal.SIGKILL)
         self.assertEqual(self.file.read_text(encoding="utf-8"), self.text)
         records.keep(self.crate, {"by-four"}, {})
         self.assertEqual(self.file.read_text(encoding="utf-8"), self.text.splitlines(keepends=True)[0])
 
 
-class OfChecks(unittest.TestCase):
+class OfChecks(Case):
     """How the words of a check are read."""
 
     def setUp(self):
-        place = tempfile.TemporaryDirectory()
-        self.addCleanup(place.cleanup)
-        self.place = Path(place.name)
+        self.place = self.room()
         (self.place / "src").mkdir()
         (self.place / "src/lib.rt").write_text(HIGH, encoding="utf-8")
 
@@ -366,14 +375,11 @@ class OfChecks(unittest.TestCase):
         self.assertEqual(said.outcome(set(), None).goals, ["returns"])
         self.assertEqual(said.outcome({("there",)}, (Path("lib.rt"), "there", None)).verdict, "proved")
 
-    def test_let_through(self):
+    def test_other_verdicts(self):
         self.assertEqual(self.outcome(last="only=1 proved=1").verdict, "proved")
         self.assertEqual(self.outcome("fn high::there: not proved; it stands on `x`").verdict, "proved")
-
-    def test_another_function_may_be_the_reason(self):
+        # Another function may be the reason.
         self.assertIsNone(self.outcome("fn high::high: not proved; it calls `high::there`, which is not proved"))
-
-    def test_no_verdict(self):
         self.assertIn("does not compile", self.outcome(last="src/lib.rt:3:4: error[unknown-name]: no `x`"))
         self.assertIn("no verdict", self.outcome(last="rattle: no verdict: out of steps"))
 
@@ -383,21 +389,17 @@ class OfCommand(Repository):
 
     def setUp(self):
         super().setUp()
-        for path in (".ci/mutants", "tools/kit.py"):
+        for path in (".ci/mutants", "tools/kit.py", "tools/source.py"):
             (self.top / path).parent.mkdir(exist_ok=True)
-            shutil.copy(TOP / path, self.top / path)
-        shutil.copy(TOP / "tools/source.py", self.top / "tools/source.py")
-        shutil.copytree(TOP / "tools/mutation", self.top / "tools/mutation")
-        self.write("kit/bin/rt", "")
-        self.write("kit/bin/rtlib.py", RTLIB)
-        self.write("kit/bin/rattle", RATTLE)
-        self.write("kit/KIT-ID", "a kit\n")
+            shutil.copy(ROOT / path, self.top / path)
+        shutil.copytree(ROOT / "tools/mutation", self.top / "tools/mutation")
+        for path, text in (("kit/bin/rt", ""), ("kit/bin/rtlib.py", RTLIB), ("kit/bin/rattle", RATTLE), ("kit/KIT-ID", "a kit\n"),
+                           ("crates/low/out/rlib/it.rlib/format", ""), ("crates/low/out/rlib/stamp", LOW)):
+            self.write(path, text)
         for name in ("rt", "rattle"):
             (self.top / "kit/bin" / name).chmod(0o755)
-        self.write("crates/low/out/rlib/it.rlib/format", "")
-        self.write("crates/low/out/rlib/stamp", LOW)
         # A run that is killed leaves its room.
-        self.words = {**os.environ, "TMPDIR": self.place.name, "PATH": f"{self.top}/kit/bin:{os.environ['PATH']}"}
+        self.words = {**os.environ, "TMPDIR": str(self.place), "PATH": f"{self.top}/kit/bin:{os.environ['PATH']}"}
         self.crate = self.top / "crates/high"
 
     def run_it(self, *words):
@@ -405,14 +407,9 @@ class OfCommand(Repository):
         ran = subprocess.run([self.top / ".ci/mutants", *words], **how, check=False)
         return ran.returncode, ran.stdout + ran.stderr
 
-    def git(self, *words):
-        how = ["git", "-c", "user.name=n", "-c", "user.email=e", "-C", str(self.top)]
-        return subprocess.run([*how, *words], capture_output=True, text=True, check=True).stdout
-
     def test_records_and_checks(self):
         status, said = self.run_it("--check-records")
-        self.assertEqual(status, 1)
-        self.assertIn("high thrice: no record", said)
+        self.assertEqual((status, "high thrice: no record" in said), (1, True), said)
         status, said = self.run_it("--record", "--lanes", "2")
         self.assertEqual((status, said.count("refused   ")), (0, 2), said)
         self.assertEqual(self.run_it("--check-records")[0], 0)
@@ -423,18 +420,14 @@ class OfCommand(Repository):
         self.assertEqual(self.run_it("--check-records")[0], 0)
         self.change("crates/high/src/lib.rt", "    twice\n", "    twice + 0\n")
         status, said = self.run_it("--check-records")
-        self.assertEqual(status, 1)
-        self.assertIn("high thrice: changed since it was tried", said)
-        self.assertNotIn("by-four", said)
+        self.assertEqual((status, "high thrice: changed since it was tried" in said, "by-four" in said), (1, True, False), said)
         status, said = self.run_it("--record", "high")
         self.assertEqual((status, said.count("refused   ")), (0, 1), said)
 
     def test_libraries_of_other_sources(self):
-        self.change("crates/low/src/lib.rt", "n / 2", "n / 3")
-        for words in (["--record"], ["high"]):
-            status, said = self.run_it(*words)
-            self.assertEqual(status, 2)
-            self.assertIn("not built from these sources: low", said)
+        self.change("crates/low/src/lib.rt", "n / START", "n / 3")
+        for status, said in (self.run_it("--record"), self.run_it("high")):
+            self.assertEqual((status, "not built from these sources: low" in said), (2, True), said)
         (self.top / "crates/low/out/rlib/stamp").unlink()
         self.assertEqual((self.run_it("high")[0], self.run_it("--record")[0]), (0, 2))
         (self.top / "crates/low/out/rlib/it.rlib/format").unlink()
@@ -443,8 +436,7 @@ class OfCommand(Repository):
     def test_a_source_that_changes_meanwhile(self):
         self.write("kit/bin/rattle", RATTLE + f"\npathlib.Path('{self.crate}/src/lib.rt').touch()\n")
         status, said = self.run_it("--record")
-        self.assertEqual(status, 1)
-        self.assertIn("a source changed meanwhile", said)
+        self.assertEqual((status, "a source changed meanwhile" in said), (1, True), said)
         self.assertFalse((self.crate / "mutants.record").exists())
 
     def test_not_refused_is_not_recorded(self):
@@ -487,31 +479,25 @@ class OfCommand(Repository):
         self.write("crates/high/must-fail/thrice.edit", FILES["crates/high/must-fail/thrice.edit"])
         self.assertEqual(self.run_it("--record")[0], 0)
 
-    def test_a_folder_that_takes_no_file(self):
+    def test_wrong_words_and_a_folder_that_takes_no_file(self):
         self.write("crates/high/out", "")
-        status, said = self.run_it("--record")
-        self.assertEqual(status, 2)
-        self.assertIn("crates/high/out", said)
-        self.assertNotIn("Traceback", said)
-
-    def test_wrong_words(self):
         for words, why in (
+            (["--record"], "crates/high/out"),
             (["nowhere"], "no crate nowhere"),
             (["--only", "nothing", "high"], "no mutant nothing"),
             ([], "name crates"),
             (["--lanes", "0", "high"], "--lanes"),
         ):
             status, said = self.run_it(*words)
-            self.assertEqual(status, 2)
+            self.assertEqual((status, "Traceback" in said), (2, False))
             self.assertIn(why, said)
 
     def test_sample(self):
         self.assertEqual(self.run_it("--sample")[0], 2)
         self.write(".gitignore", "out/\n")
         self.run_it("--record")
-        self.git("init", "-q")
-        self.git("add", "-A")
-        self.git("commit", "-qm", "One")
+        for words in (["init", "-q"], ["add", "-A"], ["commit", "-qm", "One"]):
+            subprocess.run(["git", "-c", "user.name=n", "-c", "user.email=e", *words], cwd=self.top, capture_output=True, check=True)
         status, said = self.run_it("--sample")
         self.assertEqual((status, said.count("refused   ")), (0, 2), said)
         self.assertNotIn("this clone has", said)
@@ -526,7 +512,3 @@ class OfCommand(Repository):
     def test_an_edit_file_of_a_mutant(self):
         mutant = Mutant(self.crate / "edits/by-four.edit", self.crate)
         self.assertEqual((mutant.function, mutant.module, mutant.fault), ("other", (), ""))
-
-
-if __name__ == "__main__":
-    unittest.main()

@@ -18,6 +18,14 @@ def without(text, cuts):
     return "\n".join(line.rstrip() for line in lines if line.strip())
 
 
+def head_of(text, start):
+    """Where the attributes and comments above a function begin."""
+    above = text[:start].split("\n")[:-1]
+    while above and above[-1].lstrip().startswith(("#[", "//")):
+        start -= len(above.pop()) + 1
+    return start
+
+
 def is_seen_above(function):
     """Whether a crate above can name a function."""
     return function.is_public or function.is_export or function.block is not None and function.block.trait is not None
@@ -34,7 +42,7 @@ def interface(source, is_below):
         if is_whole or function.block is not None and function.block.kind == "trait":
             continue
         if is_below and not is_seen_above(function):
-            cuts.append((function.start, function.end))
+            cuts.append((head_of(source.text, function.start), function.end))
         elif function.body is not None:
             cuts.append((function.body, function.end))
     return without(source.text, cuts)
@@ -42,12 +50,8 @@ def interface(source, is_below):
 
 def function_text(source, function):
     """A function with its body, and with the words on it that the prover tries."""
-    above = source.text[: function.start].split("\n")[:-1]
-    tactics = []
-    while above and above[-1].lstrip().startswith(("#[", "//")):
-        tactics.append(above.pop())
-    tactics = [line for line in tactics if TACTIC.match(line)]
-    return "\n".join([*tactics, without(source.text[function.start : function.end], [])])
+    above = source.text[head_of(source.text, function.start) : function.start]
+    return "\n".join([*(found[0] for found in TACTIC.finditer(above)), without(source.text[function.start : function.end], [])])
 
 
 def method_at(source, place):

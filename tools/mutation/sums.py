@@ -1,45 +1,42 @@
 """The checksum of all that the check of a mutant reads. It changes whenever the verdict can, and seldom else.
 
 A proof takes every other function by its contract: the toolchain keeps a function's code and its proof from all others, in its
-crate and above it (`rattle help check`: "private to the function"). So the sum is of
+crate and above it (`rattle help check`: "private to the function"). It reads what its text names, and what that names. So the sum
+is of
 - the toolchain's version, and the lines of crates.txt of the crate and of those below it;
-- the sources of these crates without the bodies of functions and without comments (tools/mutation/parts.py): signatures, clauses,
-  types, constants, traits, macros; and all their specs;
-- the lemma files of proofs/ that these cite, and the files that those cite;
-- the mutant's own text, the function that it changes with its body, the files of its proof, and the lemma files that they cite.
-Where a mutant changes no single function, as in a table or a definition, all sources and proofs of the crate count. A file in
-proofs/ that is neither a lemma file nor one of a function's proof counts too.
+- the mutant's own text, the function that it changes with its body, what that imports, and the files of its proof;
+- the items of these crates that these reach by their words (tools/mutation/items.py): signatures with clauses, types, constants,
+  traits, definitions of specs/ and lemmas of proofs/, all without bodies and comments (tools/mutation/parts.py). A name reaches
+  every item of that name, in each of these crates; a method or a trait's `impl` counts with its type. Their words reach more.
+- what has no name, as macros.
+Where a mutant changes no single function, as in a table or a definition, all sources and proofs of its crate count.
 
 It is made of sources alone: it is the same in each clone and on each machine with the same toolchain.
 """
-import hashlib
 import re
+from collections import Counter, defaultdict
 from pathlib import Path
 
 from mutation.edits import PARTS
+from mutation.items import antt_items, calls_of, digest, imports_of, rattle_items, words_of
 from mutation.parts import function_text, interface, without
 from source import crates, sources
 
 # Changes whenever what a sum is of changes.
-FORM = "2"
-CITED = re.compile(r"\bRattle\.(\w+)\.proofs\.([^\s{};,()]+)|\b(crate)::proofs::([\w:]+)")
+FORM = "3"
 # What a function's own proof is written in, in proofs/PATH/.
 OF_FUNCTIONS = ("Answers.antt", "Invariants.antt", "Proof.antt")
-
-
-def digest(*parts):
-    """A sum of texts, and of sums of them."""
-    found = hashlib.sha256()
-    for part in parts:
-        octets = part.encode()
-        found.update(len(octets).to_bytes(8, "big") + octets)
-    return found.hexdigest()
 
 
 def antt(file):
     """A definition or proof file without comments and blank lines."""
     lines = file.read_text(encoding="utf-8").split("\n")
     return "\n".join(line for line in lines if line.strip() and not line.lstrip().startswith("--"))
+
+
+def places_of(crate, path):
+    """What names a file in antt, in each path that leads to it from another file."""
+    return {crate, Path(path).stem} - {"Lib"}
 
 
 class Crate:
@@ -49,31 +46,29 @@ class Crate:
         self.folder, self.name = top / "crates" / name, name
         self.sources = list(sources(name, top))
         self.specs, self.proofs = self.files("specs"), self.files("proofs")
+        self.types = {item.name for one in self.sources for item in one.items if item.kind in ("struct", "enum", "type")}
+        self.stated = {}
 
     def files(self, part):
         """The texts of the files of a part in antt, by their paths."""
         files = sorted((self.folder / part).rglob("*.antt"))
         return {file.relative_to(self.folder).as_posix(): antt(file) for file in files}
 
-    def stated(self, is_below):
-        """What the crate states, for itself or for crates above, by the paths of the files."""
-        found = {one.path.relative_to(self.folder).as_posix(): interface(one, is_below) for one in self.sources}
-        return found | self.specs | {name: self.proofs[name] for name in self.loose()}
+    def items(self, is_below, types):
+        """What the crate states, for itself or for crates above, with the sum of each."""
+        if is_below not in self.stated:
+            lemmas = {path: text for path, text in self.proofs.items() if Path(path).name not in OF_FUNCTIONS}
+            found = [(path, item) for path, text in (self.specs | lemmas).items() for item in antt_items(text, *places_of(self.name, path))]
+            for one in self.sources:
+                path = one.path.relative_to(self.folder).as_posix()
+                found += [(path, item) for item in rattle_items(one, interface(one, is_below), types)]
+            self.stated[is_below] = [(item, digest(self.name, path, item.text)) for path, item in found]
+        return self.stated[is_below]
 
     def whole(self):
         """All sources and proofs."""
         found = {one.path.relative_to(self.folder).as_posix(): without(one.text, []) for one in self.sources}
         return found | self.proofs
-
-    def cited(self, path):
-        """The files that a module's name can lead to."""
-        parts = [part for part in re.split(r"[.:]+", path) if part]
-        names = [f"proofs/{'/'.join(parts[:count])}.antt" for count in range(1, len(parts) + 1)]
-        return [name for name in names if name in self.proofs]
-
-    def loose(self):
-        """The files of proofs/ below a folder that are of no function's proof."""
-        return [name for name in self.proofs if name.count("/") > 1 and Path(name).name not in OF_FUNCTIONS]
 
     def proof_of(self, mutant):
         """The files of the proof of the function that a mutant changes. One of a type may be in another file than the type."""
@@ -88,11 +83,48 @@ def is_proof(parts, mutant):
     return parts == (*mutant.module, mutant.function)
 
 
+class Reach:
+    """The items of a crate and of those below it, with their sums, by the words that lead to them."""
+
+    def __init__(self, items):
+        self.named, self.reached = defaultdict(list), {}
+        uses = Counter(word for item, _ in items for name in item.names for word in name)
+        self.always, self.first, self.known = set(), set(), frozenset(uses)
+        for item, total in items:
+            words = item.words & self.known
+            for name in item.names:
+                self.named[min(name, key=uses.get)].append((total, name, words))
+            if not item.names:
+                self.always.add(total)
+                self.first |= words
+
+    def of(self, words):
+        """The sums of the items that words reach, for mutants with the same words once."""
+        words = words & self.known
+        if words not in self.reached:
+            self.reached[words] = self.reach(words)
+        return self.reached[words]
+
+    def reach(self, words):
+        """A name that lacks a word waits for it."""
+        found, seen, left, waiting = set(self.always), set(), set(words | self.first), defaultdict(list)
+        while left:
+            word = left.pop()
+            seen.add(word)
+            for total, name, more in [*self.named.get(word, ()), *waiting.pop(word, ())]:
+                if not name <= seen:
+                    waiting[next(iter(name - seen))].append((total, name, more))
+                elif total not in found:
+                    found.add(total)
+                    left |= more - seen
+        return sorted(found)
+
+
 class Sums:
     """The sums of the mutants of a repository."""
 
     def __init__(self, top, version):
-        self.top, self.version, self.crates, self.texts, self.bases = top, version, {}, {}, {}
+        self.top, self.version, self.crates, self.reaches = top, version, {}, {}
         self.listed = {crate.name: crate for crate in crates(top)}
 
     def crate(self, name):
@@ -100,13 +132,10 @@ class Sums:
             self.crates[name] = Crate(self.top, name)
         return self.crates[name]
 
-    def stated(self, name, is_below):
-        """What a crate states, for itself or for crates above, with its line of crates.txt."""
-        if (name, is_below) not in self.texts:
-            listed = self.listed.get(name)
-            line = " ".join([name, *listed.marks, *sorted(listed.uses)]) if listed else name
-            self.texts[name, is_below] = self.crate(name).stated(is_below) | {"crates.txt": line}
-        return self.texts[name, is_below]
+    def line(self, name):
+        """A crate's line of crates.txt."""
+        listed = self.listed.get(name)
+        return " ".join([name, *listed.marks, *sorted(listed.uses)]) if listed else name
 
     def below(self, name):
         """A crate with all that it uses, in the order of their names."""
@@ -124,45 +153,25 @@ class Sums:
         found = ((str(file), file.lstat()) for file in files)
         return sorted((file, stat.st_ino, stat.st_size, stat.st_mtime_ns) for file, stat in found)
 
-    def lemmas(self, crate, texts):
-        """The lemma files that texts of a crate cite, with those that these cite, by crate and path."""
-        found, left = {}, [(crate, text) for text in texts]
-        while left:
-            at, text = left.pop()
-            for one, path, here, inner in CITED.findall(text):
-                name = at if here else one
-                for file in self.crate(name).cited(path or inner) if name in self.listed else []:
-                    if (name, file) not in found:
-                        found[name, file] = self.crate(name).proofs[file]
-                        left.append((name, found[name, file]))
-        return found
-
-    def base(self, name):
-        """What each mutant of a crate rests on: its sum, and the lemma files in it."""
-        if name not in self.bases:
-            parts, lemmas = [FORM, self.version], {}
-            for it in self.below(name):
-                texts = self.stated(it, it != name)
-                parts += [it, *(word for pair in texts.items() for word in pair)]
-                lemmas |= self.lemmas(it, texts.values())
-            self.bases[name] = digest(*parts, *spread(lemmas)), lemmas
-        return self.bases[name]
+    def reach(self, name):
+        if name not in self.reaches:
+            below = self.below(name)
+            types = set().union(*(self.crate(it).types for it in below))
+            self.reaches[name] = Reach([pair for it in below for pair in self.crate(it).items(it != name, types)])
+        return self.reaches[name]
 
     def of(self, mutant):
         """The sum of a mutant that can be tried."""
-        crate, (base, known) = self.crate(mutant.crate), self.base(mutant.crate)
-        own = {("", name): text for name, text in self.own(crate, mutant).items()}
-        lemmas = {key: text for key, text in self.lemmas(crate.name, own.values()).items() if key not in known}
-        return digest(base, mutant.name, mutant.text, *spread(own), *spread(lemmas))
+        own = self.own(self.crate(mutant.crate), mutant)
+        words = words_of(mutant.text, mutant.owner or "", *own)
+        items = self.reach(mutant.crate).of(words | calls_of(words) | {mutant.crate})
+        lines = [self.line(it) for it in self.below(mutant.crate)]
+        return digest(FORM, self.version, *lines, mutant.name, mutant.text, *own, "".join(items))
 
     def own(self, crate, mutant):
-        """What the verdict on one mutant rests on in its crate, beside what the crate states."""
+        """The texts of its crate that the verdict on one mutant rests on, beside what others read."""
         if not mutant.function:
-            return crate.whole()
-        function = mutant.source.function_at(mutant.source.text.index(mutant.pairs[0][0]))
-        return {name: crate.proofs[name] for name in crate.proof_of(mutant)} | {"": function_text(mutant.source, function)}
-
-
-def spread(texts):
-    """Texts by crate and path, as a list in a fixed order."""
-    return [word for (name, path), text in sorted(texts.items()) for word in (name, path, text)]
+            return [word for pair in crate.whole().items() for word in pair]
+        text = function_text(mutant.source, mutant.source.function_at(mutant.source.text.index(mutant.pairs[0][0])))
+        proof = [word for name in crate.proof_of(mutant) for word in (name, crate.proofs[name])]
+        return [*proof, text, *imports_of(mutant.source).of(text, words_of(text))]
