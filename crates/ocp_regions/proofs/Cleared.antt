@@ -1,5 +1,5 @@
 -- What is left of a memory that is cleared: its addresses.
-use Rattle.std.proofs.Common.{◌≡◌, ◌≤◌, ℕ, zero, suc, ◌+◌, ◌-◌, ◌%◌, ◌^◌, List, [], ◌∷◌, ◌++◌, length, map, replicate, Option, Some, None, Result, Ok, Err, Bool, true, false, ◌&&◌, cond, refl, sym, ap, subst, ◌∙◌, arith, length-append}
+use Rattle.std.proofs.Common.{◌≡◌, ◌≤◌, ℕ, zero, suc, ◌+◌, ◌-◌, ◌%◌, ◌^◌, List, [], ◌∷◌, ◌++◌, length, map, replicate, Option, Some, None, Result, Ok, Err, Bool, true, false, ◌&&◌, cond, refl, sym, ap, ◌∙◌, arith, length-append}
 use Rattle.std.specs.Prelude.{is_some, slice_get, nat_lt, if◌then◌else◌, not}
 use Rattle.std.proofs.lemmas.List.{length-replicate}
 use Rattle.std.proofs.lemmas.Bool.Decides.{nat_tests}
@@ -9,9 +9,9 @@ use Rattle.std.specs.FinMap.{entries, find, get, insert, get-entries, get-from_e
 use Rattle.std.specs.BTreeMap.{is_at}
 use Rattle.ocp_regions.specs.declared.fault.AccessFault.{AccessFault}
 use Rattle.ocp_profile.specs.declared.profile.Profile.{Profile}
-use Rattle.ocp_regions.specs.Memory.{Octets, entries_from, memory_of, work_octets, IsWorkLength, zeros, zeros_over, octets_at, in_front, with_octets, with_arguments, memory_after_store, low_octets, meets_arguments}
+use Rattle.ocp_regions.specs.Memory.{Octets, entries_from, memory_of, work_octets, zeros, zeros_over, octets_at, in_front, with_octets, with_arguments, memory_after_store, low_octets, meets_arguments}
 use Rattle.ocp_regions.proofs.Entries.{octet_in, placed_octet, or_else, get_memory}
-use Rattle.ocp_regions.proofs.Written.{zeros_again, read_arguments, length_low, same_memory, same_work}
+use Rattle.ocp_regions.proofs.Written.{zeros_again, read_arguments, length_low, same_memory, same_work_length}
 use Rattle.ocp_regions.specs.declared.fault.AccessFault.TheVariants.{AccessOutside, WriteToArguments}
 
 -- zero where there is an octet
@@ -32,7 +32,7 @@ pub get-cleared : (m : Octets) (q : ℕ) → get (zeros_over m) q ≡ zeroed (ge
 unfolding zeros_over
 get-cleared m q = get-from_entries nat_cmp_total (map (λ address. (address, 0)) (map (λ e. e.0) (entries m))) q ∙ find_zero (entries m) q ∙ ap zeroed (sym (get-entries m q))
 
-same : (m n : Octets) → ((q : ℕ) → get m q ≡ get n q) → m ≡ n
+pub same : (m n : Octets) → ((q : ℕ) → get m q ≡ get n q) → m ≡ n
 same m n h = same_map nat_cmp_total nat_cmp-IsAntisymmetric m n h
 
 -- memories with the same addresses are cleared to the same
@@ -81,7 +81,7 @@ there_too true v None h = absurd (bad (h refl))
     bad e = absurd cc
 there_too false v o h = refl
 
-at_same : (q a : ℕ) → is_at (nat_cmp q) a ≡ true → q ≡ a
+pub at_same : (q a : ℕ) → is_at (nat_cmp q) a ≡ true → q ≡ a
 at_same q a h = grind (arith, nat_tests)
 
 kept_at : (m : Octets) (a v : ℕ) → is_some (get m a) ≡ true → zeros_over (insert m a v) ≡ zeros_over m
@@ -164,9 +164,6 @@ cleared_arguments profile octets h =
 
 -- ---- memories with the same addresses
 
-same_lengths : (m n : ℕ) → replicate {A = ℕ} m 0 ≡ replicate {A = ℕ} n 0 → m ≡ n
-same_lengths m n e = sym (length-replicate {A = ℕ} m 0) ∙ ap length e ∙ length-replicate {A = ℕ} n 0
-
 module _ (s a w s' a' w' : List ℕ) (ls : length s ≡ 4096) (ls' : length s' ≡ 4096) (la : length a ≡ 256) (la' : length a' ≡ 256) where
   -- if the work regions have the same length, the addresses are the same
   pub same_addresses : length w ≡ length w' → zeros_over (memory_of s a w) ≡ zeros_over (memory_of s' a' w')
@@ -176,10 +173,16 @@ module _ (s a w s' a' w' : List ℕ) (ls : length s ≡ 4096) (ls' : length s' �
       ∙ cleared_regions s' a' w'
 
   -- and only then
-  pub as_long : IsWorkLength (length w) → IsWorkLength (length w') → zeros_over (memory_of s a w) ≡ zeros_over (memory_of s' a' w') → length w ≡ length w'
-  as_long lw lw' e =
-      same_lengths (length w) (length w')
-      (same_work (replicate (length s) 0) (replicate (length a) 0) (replicate (length w) 0) (replicate (length s') 0) (replicate (length a') 0) (replicate (length w') 0)
+  pub as_long : zeros_over (memory_of s a w) ≡ zeros_over (memory_of s' a' w') → length w ≡ length w'
+  as_long e =
+      sym (length-replicate {A = ℕ} (length w) 0)
+      ∙ same_work_length (replicate (length s) 0) (replicate (length a) 0) (replicate (length w) 0) (replicate (length s') 0) (replicate (length a') 0) (replicate (length w') 0)
       (length-replicate {A = ℕ} (length s) 0 ∙ ls) (length-replicate {A = ℕ} (length s') 0 ∙ ls') (length-replicate {A = ℕ} (length a) 0 ∙ la) (length-replicate {A = ℕ} (length a') 0 ∙ la')
-      (subst IsWorkLength (sym (length-replicate {A = ℕ} (length w) 0)) lw) (subst IsWorkLength (sym (length-replicate {A = ℕ} (length w') 0)) lw')
-      (cleared_regions s a w ∙ e ∙ sym (cleared_regions s' a' w')))
+      (cleared_regions s a w ∙ e ∙ sym (cleared_regions s' a' w'))
+      ∙ length-replicate {A = ℕ} (length w') 0
+
+-- ---- the regions of a profile
+
+-- the addresses of regions that are as long as the profile says
+pub addresses_of : (profile : Profile) (s a w : List ℕ) → length s ≡ 4096 → length a ≡ 256 → length w ≡ work_octets profile → zeros_over (memory_of s a w) ≡ zeros profile
+addresses_of profile s a w l k j = sym (cleared_regions s a w) ∙ zeros_again s a w profile l k j

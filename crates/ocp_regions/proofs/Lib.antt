@@ -4,3 +4,4 @@ pub mod Numbers
 pub mod Written
 pub mod Zeros
 pub mod Accesses
+pub mod InOrder

@@ -1,13 +1,12 @@
 //! Regions of which the front or the end is known to be zero, so that only the other octets move.
 // The index that bounds the zeros goes with the region.
-ghost use Rattle.std.specs.Prelude.{◌≡◌, ◌≤◌, ◌+◌, ◌↔◌, IsTrue, length, replicate, vec_capacity};
+ghost use Rattle.std.specs.Prelude.{◌≡◌, ◌≤◌, ◌+◌, ◌↔◌, IsTrue, length, replicate};
 ghost use Rattle.std.proofs.lemmas.List.Edits.{sets};
 ghost use Rattle.bpf_types.specs.Line.{octets_in};
 ghost use Rattle.ocp_regions.specs.Memory.{low_octets, IsZeroBelow, IsZeroFrom};
 
 use crate::access::{are_same, write_at, zero};
 use bpf_types::Size;
-use std::alloc::Allocator;
 
 /// The octets that are looked at together: those of one frame of the stack.
 const BLOCK_OCTETS: usize = 512;
@@ -48,21 +47,6 @@ pub(crate) fn clear_below_index(region: &mut [u8], index: usize)
     ensures { region.new ≡ replicate (length region.old) 0 }
 {
     zero(&mut region[..index]);
-}
-
-/// Gives a region a number of octets, for which it has room: its first ones, and zeros after them.
-pub(crate) fn set_len<A: Allocator>(region: &mut Vec<u8, A>, end: &mut usize, octets: usize)
-    requires zeros { IsZeroFrom end.old region.old.items }
-    requires room { octets ≤ vec_capacity region.old }
-    ensures len { length region.new.items ≡ octets }
-    ensures zeros { IsZeroFrom end.new region.new.items }
-    ensures room { vec_capacity region.new ≡ vec_capacity region.old }
-{
-    region.truncate(octets);
-    *end = (*end).min(octets);
-    for _ in region.len()..octets {
-        region.push_reserved(0);
-    }
 }
 
 /// Whether two regions have the same octets.

@@ -1,10 +1,11 @@
 //! Laws on memories. The functions do nothing when they run: their contracts are the laws.
-ghost use Rattle.std.specs.Prelude.{◌≡◌, ◌≤◌, ◌<◌, ◌+◌, ◌%◌, ◌^◌, ℕ, List, length, slice_index, Some, Ok};
+ghost use Rattle.std.specs.Prelude.{◌≡◌, ◌≤◌, ◌<◌, ◌+◌, ◌%◌, ◌^◌, ◌++◌, ℕ, List, length, slice_index, Some, Ok};
 ghost use Rattle.std.specs.List.{All};
 ghost use Rattle.std.specs.FinMap.{get};
 ghost use Rattle.ocp_profile.specs.declared.profile.Profile.{Profile};
 ghost use Rattle.ocp_regions.specs.declared.regions.TheConstants.{STACK, STACK_OCTETS, ARGUMENTS, ARGUMENT_OCTETS, WORK};
-ghost use Rattle.ocp_regions.specs.Memory.{Octets, memory_of, zeros, zeros_over, with_arguments, number_in_memory, memory_after_store};
+ghost use Rattle.ocp_regions.specs.Memory.{Octets, memory_of, work_octets, zeros, zeros_over, with_arguments, number_in_memory, memory_after_store};
+ghost use Rattle.ocp_regions.specs.InOrder.{octets_in_order, memory_length, memory_with, HasRegions};
 ghost use Rattle.ocp_regions.specs.Access.{MayBeRead, MayBeWritten, AreApart, HasOctets};
 
 /// A profile's memory of zeros is unchanged if it is cleared, and it is the same again if it is
@@ -72,4 +73,27 @@ pub fn memories_have_octets()
         memory_after_store old address n number ≡ Ok new → HasOctets new }
     ensures load { (memory : Octets) (address n number : ℕ) → HasOctets memory →
         number_in_memory memory address n ≡ Ok number → number < 256 ^ n }
+{}
+
+/// A memory has the addresses of a profile exactly if it is three regions, each of the length that
+/// it has under the profile.
+pub fn addresses_are_those_of_the_regions()
+    ensures addresses { (profile : Profile) (stack arguments work : List ℕ) →
+        length stack ≡ STACK_OCTETS → length arguments ≡ ARGUMENT_OCTETS →
+        length work ≡ work_octets profile →
+        zeros_over (memory_of stack arguments work) ≡ zeros profile }
+    ensures regions { (profile : Profile) (memory : Octets) →
+        zeros_over memory ≡ zeros profile → HasRegions profile memory }
+{}
+
+/// The octets of a memory, in the order of their addresses, are those of its regions one after the
+/// other, and they make the memory again.
+pub fn memories_are_their_octets()
+    ensures order { (stack arguments work : List ℕ) → length stack ≡ STACK_OCTETS →
+        length arguments ≡ ARGUMENT_OCTETS →
+        octets_in_order (memory_of stack arguments work) ≡ stack ++ (arguments ++ work) }
+    ensures len { (profile : Profile) (memory : Octets) → HasRegions profile memory →
+        length (octets_in_order memory) ≡ memory_length profile }
+    ensures again { (profile : Profile) (memory : Octets) → HasRegions profile memory →
+        memory_with (octets_in_order memory) ≡ memory }
 {}

@@ -14,4 +14,4 @@ pub mod laws;
 mod regions;
 
 pub use fault::AccessFault;
-pub use regions::{ARGUMENT_OCTETS, ARGUMENTS, Regions, STACK, STACK_OCTETS, WORK};
+pub use regions::{ARGUMENT_OCTETS, ARGUMENTS, Parts, Regions, STACK, STACK_OCTETS, WORK};
