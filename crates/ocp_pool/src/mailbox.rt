@@ -38,6 +38,14 @@ impl Mailbox {
         self.words.clear();
     }
 
+    /// The words, the oldest first.
+    pub fn words(&self) -> &[u64]
+        ensures value { result.now ≡ self.now }
+        ensures few { length result.now ≤ MAX_MAILBOX_WORDS }
+    {
+        self.words.as_slice()
+    }
+
     /// The number of words.
     pub fn len(&self) -> usize
         ensures value { result ≡ length self.now }

@@ -74,6 +74,10 @@ module _ {T : Type 0} (id_of : T → ℕ) (shown : T → Rec) where
       (subst (λ (x : Slab T). IsHolding id_of shown x []) (ap (λ (xs : List (Option T)). record { slots = xs; vacant_key = s.vacant_key; capacity = s.capacity }) (sym none))
       (holds-empty s.capacity s.vacant_key room))
 
+  pub contents-none : (s t : Slab T) → t ≡ s → s.slots ≡ [] → contents id_of shown t ≡ map.empty
+  contents-none s t is none =
+      ap (contents id_of shown) (is ∙ ap (λ (xs : List (Option T)). record { slots = xs; vacant_key = s.vacant_key; capacity = s.capacity }) none)
+
   -- and all executions are spare
   pub opened : {X Z : Type 0} (s t : Slab T) (outbox : List Due) (spares : Vec X Z) → t ≡ s → s.slots ≡ [] → MAX_PROCEDURES ≤ s.capacity → outbox ≡ [] → vec_len spares ≡ MAX_PROCEDURES → MAX_PROCEDURES ≤ vec_capacity spares → IsHolding id_of shown t outbox × IsStocked t spares
   opened s t outbox spares is none room nothing all fits =

@@ -13,3 +13,5 @@ pub mod Rows
 pub mod Counting
 pub mod Slicing
 pub mod Held
+pub mod Memories
+pub mod Restores

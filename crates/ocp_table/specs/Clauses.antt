@@ -10,11 +10,16 @@ pub use Rattle.ocp_loader.specs.LineAt.{IsPlace, line_of}
 pub use Rattle.ocp_regions.specs.Memory.{octets_at}
 pub use Rattle.ocp_regions.specs.declared.fault.AccessFault.TheVariants.{AccessOutside}
 pub use Rattle.ocp_regions.specs.declared.fault.AccessFault.TheVariants.{WriteToArguments}
+pub use Rattle.ocp_regions.specs.Memory.{work_octets}
+pub use Rattle.ocp_regions.specs.declared.regions.TheConstants.{STACK_OCTETS}
 pub use Rattle.bpf_step.specs.Machine.{machine_at_restart, HasAddressesOf, State, machine_at_start}
+pub use Rattle.bpf_step.specs.Machine.{HasMemoryOf}
+pub use Rattle.bpf_step.specs.Reach.{frame_pointer}
 pub use Rattle.bpf_step.specs.Step.{one_step, StandsIn}
 pub use Rattle.bpf_step.specs.Runs.{local_run, breaks_at}
 pub use Rattle.bpf_step.specs.declared.answer.MachineFault.TheVariants.{Access, CallDepth}
 pub use Rattle.ocp_pool.specs.declared.call.PoolFault.TheVariants.{BadPoolIndex}
+pub use Rattle.ocp_pool.specs.declared.mailbox.TheConstants.{MAX_MAILBOX_WORDS}
 pub use Rattle.ocp_table.specs.Effects.{Kept, Failed, step_outcome, step_outcome_of, record_by}
 pub use Rattle.ocp_table.specs.Effects.{dues_by_change, matches, inactive, control_on_hold}
 pub use Rattle.ocp_table.specs.Effects.{without_pass}
@@ -31,7 +36,7 @@ pub use Rattle.ocp_table.specs.Slices.{slice_count, slice_last, store_of, store_
 pub use Rattle.ocp_table.specs.Slices.{step_ended_by, step_ended, step_at, most_events, ends_with}
 pub use Rattle.ocp_table.specs.Slices.{slice_of}
 pub use Rattle.ocp_table.specs.Budgets.{less, IsWithin}
-pub use Rattle.ocp_table.specs.Outbox.{HasPlaceBeside, pendings, has_no_place}
+pub use Rattle.ocp_table.specs.Outbox.{HasPlaceBeside, pendings, has_no_place, places_of}
 pub use Rattle.ocp_table.specs.Deciding.{decision_on, outcome_of, effect_in, status_of, outcome_in}
 pub use Rattle.ocp_table.specs.Deciding.{outcome_unheld, Executes, ExecutesStep, is_full}
 pub use Rattle.ocp_table.specs.Deciding.{table_after}
@@ -39,6 +44,13 @@ pub use Rattle.ocp_table.specs.Shown.{record_of, directive_of, change_of, decisi
 pub use Rattle.ocp_table.specs.Shown.{HasFewArguments, FitsIn, HasPlaceFor, effect_of_record}
 pub use Rattle.ocp_table.specs.Shown.{dues_of_effect, id_of, statuses_of, view_at}
 pub use Rattle.ocp_table.specs.Shown.{effect_decided, IfChanges}
+pub use Rattle.ocp_table.specs.Restoring.{record_of_saved, machine_of_saved, is_above}
+pub use Rattle.ocp_table.specs.Restoring.{lacks_places, is_active, is_pending, pends_inactive}
+pub use Rattle.ocp_table.specs.Restoring.{passes_unrun, has_needless_budget, rises}
+pub use Rattle.ocp_table.specs.Restoring.{are_no_breakpoints, is_place, stands_in, are_framed}
+pub use Rattle.ocp_table.specs.Restoring.{is_framed, fault_of_table, fault_of_control}
+pub use Rattle.ocp_table.specs.Restoring.{fault_of_machine, fault_of_program, first_of}
+pub use Rattle.ocp_table.specs.Restoring.{saved_fault, with_outbox, has_no_room_for}
 pub use Rattle.ocp_table.specs.Faults.{fault_number}
 pub use Rattle.ocp_table.specs.declared.answers.StepOutcome.{StepOutcome}
 pub use Rattle.ocp_table.specs.declared.fault.ProcedureFault.TheVariants.{Machine, Pool}

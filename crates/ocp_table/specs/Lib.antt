@@ -8,6 +8,7 @@ pub mod Deciding
 pub mod Shown
 pub mod Snapshots
 pub mod Slices
+pub mod Restoring
 pub mod Laws
 pub mod Mirror
 pub mod Clauses

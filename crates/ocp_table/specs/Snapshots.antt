@@ -2,7 +2,7 @@
 use Rattle.std.specs.Prelude.{ℕ, Bool, true, false, List, Option, Some, None}
 use Rattle.obcp_types.specs.declared.status.Status.{Status}
 use Rattle.obcp_types.specs.declared.status.Status.TheVariants.{Inactive, Running, Held}
-use Rattle.bpf_step.specs.Machine.{State}
+use Rattle.bpf_step.specs.Machine.{State, HasAddressesOf}
 use Rattle.bpf_step.specs.Step.{StandsIn}
 use Rattle.bpf_step.specs.Runs.{local_run, local_count}
 use Rattle.ocp_table.specs.Budgets.{less, within}
@@ -66,7 +66,13 @@ abbrev pub machine_for : Option Rec → State → State
 machine_for None machine = machine
 machine_for (Some r) machine = r.machine
 
--- the machine and its saved places are at instructions of the procedure, if it is loaded
+-- the machine and its saved places are at instructions of the image, and its memory has the
+-- addresses of another machine
+pub record IsFor (image : List ℕ) (own machine : State) : Type 0 where
+  pub stands : StandsIn image machine
+  pub addresses : HasAddressesOf own machine
+
+-- the machine may take the place of the procedure's own, if that is loaded
 abbrev pub StandsAt : Option Rec → State → Type 0
 StandsAt None machine = Unit {0}
-StandsAt (Some r) machine = StandsIn r.image machine
+StandsAt (Some r) machine = IsFor r.image r.machine machine

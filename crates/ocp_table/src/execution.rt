@@ -1,14 +1,16 @@
 //! A program and the machine that runs it.
-ghost use Rattle.std.specs.Prelude.{◌≡◌, ◌≤◌, ◌==◌, ◌&&◌, ◌↔◌, [], Err, Some, IfErr, IfOk, IsOk, IsTrue, OnErr, OnOk, length};
-ghost use Rattle.ocp_table.specs.Clauses.{HasAddressesOf, IsWithin, StandsIn, less, load_result, local_run, machine_at_restart, machine_at_start, machine_by_outcome, mailbox_by_outcome, one_step, outcome_of, pool_by_outcome};
+ghost use Rattle.std.specs.Prelude.{◌≡◌, ◌≤◌, ◌==◌, ◌&&◌, ◌↔◌, [], Err, Some, None, IfErr, IfOk, IsOk, IsTrue, OnErr, OnOk, length};
+ghost use Rattle.ocp_table.specs.Clauses.{HasAddressesOf, HasMemoryOf, IsWithin, STACK_OCTETS, StandsIn, fault_of_program, less, load_result, local_run, machine_at_restart, machine_at_start, machine_by_outcome, machine_of_saved, mailbox_by_outcome, one_step, outcome_of, pool_by_outcome, record_of_saved, work_octets};
 
-use crate::{InstructionOutcome, ProcedureFault};
+use crate::{InstructionOutcome, ProcedureFault, Saved, SavedFault};
+use bpf_step::laws::machines_started_anew_are_as_new;
 use bpf_step::{Local, Machine, Need};
 use ocp_loader::laws::places_lead_to_places;
 use ocp_loader::{Lines, LoadFault, Program};
 use ocp_pool::{Mailbox, Pool, engine_call};
 use ocp_profile::Profile;
 use ocp_regions::ARGUMENT_OCTETS;
+use ocp_regions::laws::addresses_are_those_of_the_regions;
 use std::alloc::{AllocError, Allocator};
 use std::marker::Model;
 
@@ -41,7 +43,9 @@ impl<A: Allocator> Execution<A> {
     pub(crate) fn new(alloc: A, profile: Profile) -> Result<Self, AllocError>
     where
         A: Copy,
+        ensures { IfOk result (λ e. HasMemoryOf profile e.machine) }
     {
+        machines_started_anew_are_as_new();
         Ok(Execution {
             program: Program::exit(alloc)?,
             machine: Machine::new(alloc, profile)?,
@@ -56,14 +60,50 @@ impl<A: Allocator> Execution<A> {
         profile: Profile,
         code: &[u8],
     ) -> Result<(), LoadFault>
+        requires { HasMemoryOf profile self.old.machine }
         ensures ok { OnOk result (self.new ≡
             record { image = code.now; machine = machine_at_start profile [] }) }
         ensures admitted { OnOk result (IsOk (load_result profile code.now)) }
         ensures err { IfErr result (λ fault. load_result profile code.now ≡ Err fault) }
         ensures kept { OnErr result (self.new ≡ self.old) }
+        ensures own { HasMemoryOf profile self.new.machine }
     {
+        machines_started_anew_are_as_new();
         self.program.reload(lines, profile, code)?;
-        self.machine.renew(profile);
+        self.machine.renew();
+        Ok(())
+    }
+
+    /// Becomes the program of a saved image, which may be run under the profile, and the machine
+    /// that was saved in it. Refused with the first fault of the image and of what stands in it.
+    pub(crate) fn resume(
+        &mut self,
+        lines: &mut Lines<A>,
+        profile: Profile,
+        saved: &Saved<'_>,
+    ) -> Result<(), SavedFault>
+        requires own { HasMemoryOf profile self.old.machine }
+        requires stack { length saved.now.memory.stack.now ≡ STACK_OCTETS }
+        requires arguments { length saved.now.memory.arguments.now ≡ ARGUMENT_OCTETS }
+        requires work { length saved.now.memory.work.now ≡ work_octets profile }
+        ensures ok { OnOk result (self.new ≡
+            record { image = saved.now.code.now; machine = machine_of_saved saved.now }) }
+        ensures sound { OnOk result (fault_of_program (load_result profile saved.now.code.now)
+            (record_of_saved saved.now) ≡ None) }
+        ensures err { IfErr result (λ fault. fault_of_program
+            (load_result profile saved.now.code.now) (record_of_saved saved.now) ≡ Some fault) }
+        ensures own { HasMemoryOf profile self.new.machine }
+    {
+        addresses_are_those_of_the_regions();
+        machines_started_anew_are_as_new();
+        if let Err(fault) = self.load(lines, profile, saved.code) {
+            return Err(SavedFault::Image(fault));
+        }
+        if let Some(fault) = saved.machine_fault(&self.program) {
+            return Err(fault);
+        }
+        self.machine
+            .resume(saved.registers, saved.place, saved.frames, saved.memory);
         Ok(())
     }
 

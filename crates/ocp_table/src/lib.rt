@@ -12,6 +12,7 @@ mod fault;
 pub mod laws;
 mod outbox;
 mod record;
+mod saved;
 mod slice;
 mod slots;
 mod snapshot;
@@ -28,6 +29,7 @@ pub use obcp_types::{CompletionFailure, Due, PendingOrigin, StartFailure, Status
 pub use ocp_pool::{Called, Mailbox, Pool};
 pub use ocp_profile::Profile;
 pub use record::{MAX_BREAKPOINTS, Record};
+pub use saved::{Saved, SavedFault};
 pub use slots::Place;
 pub use snapshot::Snapshot;
 pub use table::{MAX_PROCEDURES, OUTBOX_PLACES, Table};

@@ -1,6 +1,6 @@
 //! The completions that wait to be reported.
 ghost use Rattle.std.specs.Prelude.{◌≡◌, ◌++◌};
-ghost use Rattle.ocp_table.specs.Clauses.{HasPlaceBeside, dues_at_step_end, dues_by_outcome, failed_completion};
+ghost use Rattle.ocp_table.specs.Clauses.{HasPlaceBeside, dues_at_step_end, dues_by_outcome, failed_completion, places_of};
 
 use crate::control::matches;
 use crate::{Called, CompletionFailure, Due, InstructionOutcome, OUTBOX_PLACES, Pending};
@@ -9,6 +9,16 @@ use verification::is_completion_asked;
 
 /// The completions that wait to be reported, the oldest first.
 pub(crate) type Outbox = ArrayVec<Due, OUTBOX_PLACES>;
+
+/// How many places what is pending takes.
+pub(crate) fn places_of(pending: Pending) -> usize
+    ensures { result ≡ places_of pending }
+{
+    match pending {
+        Pending::Nothing => 0,
+        Pending::Stop(_, _) | Pending::Suspend(_, _) => 1,
+    }
+}
 
 /// What was pending is overtaken. It is reported whatever the flags of its request are.
 pub(crate) fn overtake(outbox: &mut Outbox, pending: Pending)

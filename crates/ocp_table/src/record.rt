@@ -1,9 +1,9 @@
 //! A procedure under its identifier.
-ghost use Rattle.std.specs.Prelude.{◌≡◌, []};
-ghost use Rattle.ocp_table.specs.Clauses.{Profile, machine_at_start, new_record, record_of};
+ghost use Rattle.std.specs.Prelude.{◌≡◌, ◌≤◌, [], length};
+ghost use Rattle.ocp_table.specs.Clauses.{MAX_MAILBOX_WORDS, Profile, machine_at_start, machine_of_saved, new_record, record_of, record_of_saved};
 ghost use Rattle.ocp_table.specs.declared.control.Pending.TheVariants as pending;
 
-use crate::{Cause, Control, Execution};
+use crate::{Cause, Control, Execution, Saved};
 use arrayvec::ArrayVec;
 use ocp_pool::Mailbox;
 use std::alloc::Allocator;
@@ -33,6 +33,7 @@ impl<A: Allocator> Record<A> {
             execution.machine ≡ machine_at_start profile [] →
             record_of result ≡ new_record profile execution.image }
         ensures id { result.id ≡ id }
+        ensures execution { result.execution ≡ execution }
         ensures idle { result.control.pending ≡ pending.Nothing }
     {
         Record {
@@ -43,6 +44,33 @@ impl<A: Allocator> Record<A> {
             remaining: None,
             execution,
             mailbox: Mailbox::new(),
+        }
+    }
+
+    /// The record of a procedure that was saved, with its execution.
+    pub(crate) fn of_saved(id: u16, execution: Execution<A>, saved: &Saved<'_>) -> Self
+        requires breakpoints { length saved.now.breakpoints.now ≤ MAX_BREAKPOINTS }
+        requires mailbox { length saved.now.mailbox.now ≤ MAX_MAILBOX_WORDS }
+        ensures record { execution
+            ≡ record { image = saved.now.code.now; machine = machine_of_saved saved.now } →
+            record_of result ≡ record_of_saved saved.now }
+        ensures id { result.id ≡ id }
+        ensures execution { result.execution ≡ execution }
+    {
+        let mut breakpoints = ArrayVec::new();
+        breakpoints
+            .try_extend_from_slice(saved.breakpoints)
+            .unwrap();
+        let mut mailbox = Mailbox::new();
+        mailbox.append(saved.mailbox);
+        Record {
+            id,
+            control: saved.control,
+            breakpoints,
+            traced: saved.traced,
+            remaining: saved.remaining,
+            execution,
+            mailbox,
         }
     }
 }

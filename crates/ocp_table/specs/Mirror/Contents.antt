@@ -5,7 +5,10 @@ use Rattle.std.specs.FinMap as map
 use Rattle.std.specs.FinMap.{FinMap, from_entries}
 use Rattle.obcp_types.specs.declared.pending.Due.{Due}
 use Rattle.ocp_table.specs.declared.table.TheConstants.{MAX_PROCEDURES}
-use Rattle.ocp_table.specs.Records.{Rec}
+use Rattle.std.specs.List.{All}
+use Rattle.ocp_profile.specs.declared.profile.Profile.{Profile}
+use Rattle.bpf_step.specs.Machine.{HasMemoryOf}
+use Rattle.ocp_table.specs.Records.{Execution, Rec, Records}
 use Rattle.ocp_table.specs.Outbox.{HasPlaces}
 use Rattle.slab.specs.Slab.{Slab, get, entries, slab_len, with_value}
 
@@ -52,3 +55,8 @@ module _ {T X Z : Type 0} where
   pub record IsStocked (s : Slab T) (spares : Vec X Z) : Type 0 where
     pub all : slab_len s + vec_len spares ≡ MAX_PROCEDURES
     pub room : MAX_PROCEDURES ≤ vec_capacity spares
+
+-- each machine has the addresses of the table's profile: those of the records, and the spare ones
+pub record HasMemories (profile : Profile) (m : Records) (spares : List Execution) : Type 0 where
+  pub held : (id : ℕ) (r : Rec) → map.get m id ≡ Some r → HasMemoryOf profile r.machine
+  pub spare : All (λ (e : Execution). HasMemoryOf profile e.machine) spares

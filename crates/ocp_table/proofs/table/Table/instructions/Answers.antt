@@ -5,6 +5,7 @@ use Rattle.ocp_table.specs.Slices.{is_traced, is_running, most_events, slice_of,
 use Rattle.ocp_table.specs.Mirror.Contents.{contents}
 use Rattle.ocp_table.proofs.Fitting.{fits-sliced}
 use Rattle.ocp_table.proofs.Held.{place_at, records_at, slice_found, stocked-at}
+use Rattle.ocp_table.proofs.Memories.{own-sliced}
 use Rattle.ocp_table.proofs.Slicing.{absent-count, absent-last, absent-store, absent-step-ended, most-some}
 use Rattle.ocp_table.proofs.table.Table.instructions.Goals as goal
 
@@ -38,6 +39,10 @@ invariant_of-self g c = (
     places = fits-sliced (slice_of c.instructions.result) _ (record { records = contents id_of record_of c.self.inside.records; outbox = c.self.inside.outbox.items; pool = c.args.pool.now }) _ c.self.invariant.0.places ((slice_found id_of record_of c.self.inside.records _ c.args.id c.in-Some.ensures.found _ c.index_mut.ensures.value c.args.extent c.args.budget c.self.inside.outbox.items _ c.args.pool.now _ _ _ c.instructions.ensures.slice).store ∙ ap (λ x. record { records = x; outbox = c.instructions.new.outbox.items; pool = c.instructions.new.pool }) (sym (records_at id_of record_of c.self.inside.records c.self.inside.outbox.items _ c.args.id _ c.in-Some.ensures.found c.index_mut.ensures.value c.self.invariant.0 _ c.instructions.ensures.id _ refl)));
   },
   stocked-at _ _ _ _ _ c.index_mut.ensures.value c.self.invariant.1,
+  record {
+    held = own-sliced c.self.inside.profile c.machines_keep_their_addresses.ensures.stepped c.machines_keep_their_addresses.ensures.answered c.args.id c.instructions.result.count (record { records = contents id_of record_of c.self.inside.records; outbox = c.self.inside.outbox.items; pool = c.args.pool.now }) _ c.self.invariant.2.held ((slice_found id_of record_of c.self.inside.records _ c.args.id c.in-Some.ensures.found _ c.index_mut.ensures.value c.args.extent c.args.budget c.self.inside.outbox.items _ c.args.pool.now _ _ _ c.instructions.ensures.slice).store ∙ ap (λ x. record { records = x; outbox = c.instructions.new.outbox.items; pool = c.instructions.new.pool }) (sym (records_at id_of record_of c.self.inside.records c.self.inside.outbox.items _ c.args.id _ c.in-Some.ensures.found c.index_mut.ensures.value c.self.invariant.0 _ c.instructions.ensures.id _ refl)));
+    spare = c.self.invariant.2.spare;
+  },
 )
 
 pub returns-clause-untraced : goal.returns-clause-untraced
