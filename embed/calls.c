@@ -265,7 +265,8 @@ static void size_of(int line, uint32_t profile, uint32_t pool_words, uint32_t en
     want(line, "ocp_close", is_open ? OCP_DONE : OCP_NOT_OPEN, ocp_close(&engine));
 }
 
-/* Numbers at both ends of their ranges, beside them, and around multiples of 16 octets. */
+/* Numbers at both ends of their ranges, beside them, and around multiples of 16 octets; each small number of entries, and of
+ * octets. */
 static void sizes(void)
 {
     static const uint32_t words[] = {0, 1, 2, 3, 16, 17, 255, 256, 257, UINT32_MAX};
@@ -279,7 +280,9 @@ static void sizes(void)
                         size_of(__LINE__, profile, words[one], entries[two], octets[three]);
     for (uint32_t number = 1; number <= 100; number++)
         size_of(__LINE__, 1 + number % 2, 1 + number * 7919 % 256, 1 + number * 104729 % 1000000, 1 + number * 1299709 % 1000000);
-    HOLDS(ocp_size(1, 1, 1, 1) == 763632 && ocp_size(2, 256, 1000000, MOST_OCTETS) == 1078507456);
+    for (uint32_t number = 1; number <= 1100; number++)
+        size_of(__LINE__, 1 + number % 2, 1 + number % 256, number, 1101 - number);
+    HOLDS(ocp_size(1, 1, 1, 1) == 714480 && ocp_size(2, 256, 1000000, MOST_OCTETS) == 1078507456);
 }
 
 static uint32_t load(void)

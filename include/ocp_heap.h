@@ -6,7 +6,7 @@
  *
  * heap.c passes out a static block from its start, in pieces that begin at multiples of 16. The block is whole again when
  * the last piece is given back: when the last engine is closed. An engine takes ocp_size(..) octets of it; set the sum of all
- * engines by the compiler's line, as a multiple of 16: cc -DFIXED_HEAP_OCTETS=833248 ..
+ * engines by the compiler's line, as a multiple of 16: cc -DFIXED_HEAP_OCTETS=784096 ..
  *
  * heap.c is for one thread: two threads that open or close an engine at the same time break the block. A program with such
  * threads brings heap functions that take a lock, or opens and closes all its engines in one thread. */

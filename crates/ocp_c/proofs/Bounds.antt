@@ -10,19 +10,21 @@ use Rattle.std.proofs.lemmas.List.Sums.{sum_by-le}
 use Rattle.obcp_types.specs.declared.pending.Due.{Due}
 use Rattle.ocp_reports.specs.Due.{drain_dispatches}
 use Rattle.ocp_reports.proofs.Packets.{length-packets}
-use Rattle.ocp_table.specs.Outbox.{pendings}
+use Rattle.ocp_table.specs.Outbox.{HasPlaces, pendings}
 use Rattle.ocp_world.specs.World.{World, Event, Request, Drain}
 use Rattle.ocp_world.specs.Effect.{Reply, Discards, Sends, Steps, Commands, Undue, Puts}
 use Rattle.ocp_world.specs.Drains.{drain_effect}
-use Rattle.ocp_world.specs.Replay.{replay}
+use Rattle.ocp_world.specs.Replay.{replay_from}
 use Rattle.ocp_world.specs.After.{Requested, after, answer_by, effect_of, is_accepted}
-use Rattle.ocp_core.specs.Log.{Log, entry_for, expand, world_of, full_answer}
-use Rattle.ocp_flight.specs.Flown.{Flown, is_full}
+use Rattle.ocp_core.specs.Log.{entry_for, expand, full_answer}
+use Rattle.ocp_flight.specs.Bounded.{IsBounded}
+use Rattle.ocp_flight.specs.Flown.{Flown, is_full, world_of}
 use Rattle.ocp_flight.specs.Calls.{answer_in}
-use Rattle.ocp_core.proofs.Completions.{places_suffice}
+use Rattle.ocp_core.proofs.Completions.{places_step}
 use Rattle.ocp_c.specs.Replies.{packets_in, reports_in}
 use Rattle.ocp_reports.specs.Packets.{together}
 use Rattle.ocp_c.specs.Bounds.{AreWithin, RequestsHaveFewReports, DrainsHaveFewReports}
+use Rattle.ocp_c.proofs.Events.{along}
 use Rattle.ocp_c.proofs.Few.{few_procedures}
 use Rattle.ocp_c.proofs.Origins.{excess, light_outbox}
 use Rattle.ocp_c.proofs.Short.{IsShortReply, short_packets, short_request, short_drained}
@@ -33,9 +35,9 @@ none : (count most : ℕ) → AreWithin count most []
 none count most = record { few = omega arith; short = All-nil (λ (packet : List ℕ). length packet ≤ most) }
 
 -- a full journal sends nothing
-unless_full : (count most : ℕ) (flown : Flown) (e : Event) → packets_in (full_answer e) ≡ [] → AreWithin count most (packets_in (after (world_of flown.log) e).answer) → AreWithin count most (packets_in (answer_in flown e))
+unless_full : (count most : ℕ) (flown : Flown) (e : Event) → packets_in (full_answer e) ≡ [] → AreWithin count most (packets_in (after (world_of flown) e).answer) → AreWithin count most (packets_in (answer_in flown e))
 unless_full count most flown e nothing is =
-    let answer = (after (world_of flown.log) e).answer in
+    let answer = (after (world_of flown) e).answer in
     elim (is_accepted answer) as (λ b. AreWithin count most (packets_in (cond b (cond (is_full flown (entry_for e)) (full_answer e) answer) answer))) [
       | true ↦ elim (is_full flown (entry_for e)) as (λ b. AreWithin count most (packets_in (cond b (full_answer e) answer))) [
         | true ↦ subst (AreWithin count most) (sym nothing) (none count most)
@@ -57,15 +59,15 @@ sent w (Commands result) is = none 4 68
 sent w Undue is = none 4 68
 sent w (Puts result) is = none 4 68
 
-few_of : (log : Log) → len (world_of log).records ≤ 16
+few_of : (flown : Flown) → IsBounded flown.base → len (world_of flown).records ≤ 16
 unfolding world_of
-few_of log = few_procedures log.profile log.apid log.words (expand log.entries)
+few_of flown bounded = few_procedures flown.base (expand flown.entries) bounded.procedures
 
 pub requests_have_few : RequestsHaveFewReports
-requests_have_few flown by time octets =
-    let w = world_of flown.log in
+requests_have_few flown by time octets bounded =
+    let w = world_of flown in
     unless_full 4 68 flown (Request by time octets) refl
-    (sent w (effect_of w (Request by time octets)).reply (short_request w (few_of flown.log) octets time))
+    (sent w (effect_of w (Request by time octets)).reply (short_request w (few_of flown bounded) octets time))
 
 -- ---- a drain
 
@@ -77,22 +79,22 @@ drain_sent w time (d ∷ ds) places light =
     let many = length-packets w.apid w.reports (drain_dispatches time (d ∷ ds)) in
     record { few = omega (arith, few, many, places); short = short_packets 6 w.apid w.reports (drain_dispatches time (d ∷ ds)) are.short }
 
-places_of_log : (log : Log) → length (world_of log).outbox ≤ 64
+places_of_flown : (flown : Flown) → IsBounded flown.base → length (world_of flown).outbox ≤ 64
 unfolding world_of
-places_of_log log =
-    let w = replay log.profile log.apid log.words (expand log.entries) in
-    let places : length w.outbox + pendings w.records ≤ 64 = places_suffice log.profile log.apid log.words (expand log.entries) in
+places_of_flown flown bounded =
+    let w = replay_from flown.base (expand flown.entries) in
+    let places : length w.outbox + pendings w.records ≤ 64 = along (λ v. HasPlaces v.records v.outbox) places_step flown.base (expand flown.entries) bounded.places in
     omega (arith, places)
 
-light_of : (log : Log) → sum_by (λ (d : Due). excess d.origin) (world_of log).outbox ≡ 0
+light_of : (flown : Flown) → IsBounded flown.base → sum_by (λ (d : Due). excess d.origin) (world_of flown).outbox ≡ 0
 unfolding world_of
-light_of log = light_outbox log.profile log.apid log.words (expand log.entries)
+light_of flown bounded = light_outbox flown.base (expand flown.entries) bounded
 
 pub drains_have_few : DrainsHaveFewReports
-drains_have_few flown by time =
-    let w = world_of flown.log in
+drains_have_few flown by time bounded =
+    let w = world_of flown in
     unless_full 64 25 flown (Drain by time) refl
-    (drain_sent w time w.outbox (places_of_log flown.log) (light_of flown.log))
+    (drain_sent w time w.outbox (places_of_flown flown bounded) (light_of flown bounded))
 
 -- ---- together
 
@@ -109,14 +111,15 @@ fits count most packets are =
     omega (arith, more, all)
 
 -- the reports of a request, and of a drain, have room
-pub request_least : (flown : Flown) (by time : ℕ) (octets : List ℕ) → length (reports_in (answer_in flown (Request by time octets))) ≤ 272
-request_least flown by time octets = fits 4 68 (packets_in (answer_in flown (Request by time octets))) (requests_have_few flown by time octets)
+module _ (flown : Flown) (bounded : IsBounded flown.base) (by time : ℕ) where
+  pub request_least : (octets : List ℕ) → length (reports_in (answer_in flown (Request by time octets))) ≤ 272
+  request_least octets = fits 4 68 (packets_in (answer_in flown (Request by time octets))) (requests_have_few flown by time octets bounded)
 
-pub drain_least : (flown : Flown) (by time : ℕ) → length (reports_in (answer_in flown (Drain by time))) ≤ 1600
-drain_least flown by time = fits 64 25 (packets_in (answer_in flown (Drain by time))) (drains_have_few flown by time)
+  pub drain_least : length (reports_in (answer_in flown (Drain by time))) ≤ 1600
+  drain_least = fits 64 25 (packets_in (answer_in flown (Drain by time))) (drains_have_few flown by time bounded)
 
-pub request_fits : (flown : Flown) (by time : ℕ) (octets : List ℕ) (given : List (List ℕ)) → answer_in flown (Request by time octets) ≡ Requested (Ok given) → length (together given) ≤ 272
-request_fits flown by time octets given is = subst (λ answer. length (reports_in answer) ≤ 272) is (request_least flown by time octets)
+  pub request_fits : (octets : List ℕ) (given : List (List ℕ)) → answer_in flown (Request by time octets) ≡ Requested (Ok given) → length (together given) ≤ 272
+  request_fits octets given is = subst (λ answer. length (reports_in answer) ≤ 272) is (request_least octets)
 
-pub drain_fits : (flown : Flown) (by time : ℕ) (given : List (List ℕ)) → answer_in flown (Drain by time) ≡ Requested (Ok given) → length (together given) ≤ 1600
-drain_fits flown by time given is = subst (λ answer. length (reports_in answer) ≤ 1600) is (drain_least flown by time)
+  pub drain_fits : (given : List (List ℕ)) → answer_in flown (Drain by time) ≡ Requested (Ok given) → length (together given) ≤ 1600
+  drain_fits given is = subst (λ answer. length (reports_in answer) ≤ 1600) is drain_least

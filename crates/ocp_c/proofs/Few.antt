@@ -1,20 +1,18 @@
--- At most 16 procedures are loaded after every list of events.
-use Rattle.std.proofs.Common.{◌≡◌, ◌≤◌, ◌<◌, ℕ, ◌+◌, Bool, true, false, cond, List, length, Option, Some, None, refl, sym, ap, subst, ◌∙◌, arith}
+-- At most 16 procedures are loaded after every list of events, if there were at most 16 before.
+use Rattle.std.proofs.Common.{◌≡◌, ◌≤◌, ◌<◌, ℕ, ◌+◌, Bool, true, false, cond, List, length, Option, Some, None, refl, sym, ap, ◌∙◌, arith}
 use Rattle.std.specs.Prelude.{◌-◌, is_some}
 use Rattle.std.proofs.lemmas.List.{length-map}
-use Rattle.std.specs.Ordering.{nat_cmp}
 use Rattle.std.specs.Cmp.{nat_cmp_total}
-use Rattle.std.specs.FinMap.{get, insert, len, entries, contains_key, len-empty, len-insert, len-remove, len-entries}
+use Rattle.std.specs.FinMap.{get, insert, len, entries, contains_key, len-insert, len-remove, len-entries}
 use Rattle.std.proofs.lemmas.Bool.{leb-false}
-use Rattle.ocp_profile.specs.declared.profile.Profile.{Profile}
 use Rattle.ocp_table.specs.Records.{Rec, Records}
 use Rattle.ocp_table.specs.Effects.{Change, Effect, Loaded, Unloaded, Changed, Drained, WordPut, Kept, new_record, record_by, with_change, records_by}
 use Rattle.ocp_table.specs.RequestTable.{Directive, Step}
 use Rattle.ocp_table.specs.Deciding.{effect_in, is_full}
 use Rattle.ocp_table.specs.Shown.{row_of, statuses_of}
-use Rattle.ocp_world.specs.World.{World, Event, opening}
+use Rattle.ocp_world.specs.World.{World, Event}
 use Rattle.ocp_world.specs.After.{effect_of}
-use Rattle.ocp_world.specs.Replay.{replay}
+use Rattle.ocp_world.specs.Replay.{replay_from}
 use Rattle.ocp_world.proofs.ByKind.{IsPlain, each_kind}
 use Rattle.ocp_c.proofs.Events.{each_event, along}
 
@@ -63,10 +61,8 @@ module _ (m : Records) (few : len m ≤ 16) where
 
 -- ---- every list of events
 
-pub few_procedures : (profile : Profile) (apid words : ℕ) (es : List Event) → len (replay profile apid words es).records ≤ 16
-few_procedures profile apid words es =
-    along (λ w. len w.records ≤ 16) (λ w e few. few_after w.records few (effect_of w e).on_records (room w e)) (opening profile apid words) es
-    (subst (λ n. n ≤ 16) (sym (len-empty nat_cmp Rec)) (omega arith))
+pub few_procedures : (w : World) (es : List Event) → len w.records ≤ 16 → len (replay_from w es).records ≤ 16
+few_procedures = along (λ w. len w.records ≤ 16) (λ w e few. few_after w.records few (effect_of w e).on_records (room w e))
 
 pub length-statuses : (m : Records) → length (statuses_of m) ≡ len m
 length-statuses m = length-map (entries m) row_of ∙ sym (len-entries m)

@@ -1,26 +1,30 @@
--- What waits to be reported repeats a request identifier of at most four octets, after every list of events.
-use Rattle.std.proofs.Common.{◌≡◌, ◌≤◌, ℕ, ◌+◌, Bool, true, false, cond, List, length, Option, Some, None, refl, ap, ◌∙◌, arith}
-use Rattle.std.specs.Prelude.{nat_le}
-use Rattle.std.specs.FinMap.{get}
-use Rattle.ocp_profile.specs.declared.profile.Profile.{Profile}
+-- What waits to be reported repeats a request identifier of at most four octets, after every list of events, if all did before.
+use Rattle.std.proofs.Common.{◌≡◌, ◌≤◌, ℕ, ◌+◌, Bool, true, false, cond, List, length, Option, Some, None, refl, sym, ap, subst, ◌∙◌, arith}
+use Rattle.std.specs.Prelude.{nat_le, get_or}
+use Rattle.std.specs.FinMap.{get, values}
+use Rattle.std.proofs.lemmas.Bool.Decides.{nat_tests}
+use Rattle.std.proofs.lemmas.List.Sums.{sum_by-le}
+use Rattle.obcp_types.specs.declared.pending.Due.{Due}
 use Rattle.obcp_types.specs.declared.pending.PendingOrigin.{PendingOrigin}
 use Rattle.ocp_table.specs.declared.control.Pending.{Pending}
+use Rattle.ocp_table.specs.declared.control.Pending.TheVariants as pending
 use Rattle.ocp_table.specs.Records.{Rec, Records}
 use Rattle.ocp_table.specs.Effects.{Change, Pended, BreakSet, BreakCleared, TraceSet, Effect, Changed}
 use Rattle.ocp_table.specs.RequestTable.{Directive, Stop, Suspend, Step}
 use Rattle.ocp_table.specs.Deciding.{effect_in}
 use Rattle.ocp_table.proofs.Asked.{Asks, IsAsked, IsAskedChange, asked}
-use Rattle.ocp_table.proofs.Weighing.{entry, waiting, waiting-empty, due, pended_by_change, pended_there, pended_by, balance, files}
+use Rattle.ocp_table.proofs.Weighing.{entry, entry_in, waiting, due, pended_by_change, pended_there, pended_by, balance, files}
 use Rattle.ocp_debug.specs.declared.command.Command as debug
 use Rattle.ocp_debug.specs.declared.command.Command.TheVariants.{SetBreak, ClearBreak, SetTrace}
 use Rattle.ocp_debug.specs.Commands as commands
 use Rattle.ocp_reports.specs.declared.origin.Origin.{Origin}
-use Rattle.ocp_world.specs.World.{World, Event, opening}
+use Rattle.ocp_world.specs.World.{World, Event}
 use Rattle.ocp_world.specs.Requests.{next_origin}
 use Rattle.ocp_world.specs.After.{effect_of, after}
-use Rattle.ocp_world.specs.Replay.{replay}
+use Rattle.ocp_world.specs.Replay.{replay_from}
 use Rattle.ocp_world.proofs.Asked.{IsAskedIn}
 use Rattle.std.proofs.lemmas.Bool.{leb-true}
+use Rattle.ocp_flight.specs.Bounded.{IsShort, IsBounded}
 use Rattle.ocp_c.proofs.Events.{IsFour, each_event, along}
 
 -- a longer identifier weighs one
@@ -88,12 +92,26 @@ empty_step w e is =
     let none = light w e in
     omega (arith, moved, filed, none, is)
 
-empty_weight : (profile : Profile) (apid words : ℕ) (es : List Event) → IsEmptyWeight (replay profile apid words es)
-empty_weight profile apid words es = along IsEmptyWeight empty_step (opening profile apid words) es (let none = waiting-empty excess in omega (arith, none))
+-- short identifiers weigh nothing
+no_excess : (from : PendingOrigin) → length from.request ≤ 4 → excess from ≤ 0
+no_excess from short =
+    let within : nat_le (length from.request) 4 ≡ true = grind (arith, nat_tests) in
+    subst (λ b. cond b 0 1 ≤ 0) (sym within) (omega arith)
+
+no_weight : (p : Pending) → IsShort p → entry excess p ≤ 0
+no_weight pending.Nothing short = omega arith
+no_weight (pending.Stop s from) short = no_excess from short
+no_weight (pending.Suspend s from) short = no_excess from short
+
+bounded_weight : (w : World) → IsBounded w → IsEmptyWeight w
+bounded_weight w bounded =
+    let pended = sum_by-le (entry_in excess) 0 (values w.records) (λ k d within. no_weight (get_or (values w.records) k d).control.pending (bounded.pending k d within)) in
+    let waits = sum_by-le (λ (d : Due). excess d.origin) 0 w.outbox (λ k d within. no_excess (get_or w.outbox k d).origin (bounded.waiting k d within)) in
+    omega (arith, pended, waits)
 
 -- no completion that waits weighs anything
-pub light_outbox : (profile : Profile) (apid words : ℕ) (es : List Event) → due excess (replay profile apid words es).outbox ≡ 0
-light_outbox profile apid words es = let is = empty_weight profile apid words es in omega (arith, is)
+pub light_outbox : (w : World) (es : List Event) → IsBounded w → due excess (replay_from w es).outbox ≡ 0
+light_outbox w es bounded = let is = along IsEmptyWeight empty_step w es (bounded_weight w bounded) in omega (arith, is)
 
 pub four_octets : (from : PendingOrigin) → excess from ≡ 0 → length from.request ≤ 4
 four_octets from is = decided (nat_le (length from.request) 4) refl is

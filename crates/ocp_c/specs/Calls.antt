@@ -1,5 +1,6 @@
 -- What a call through a handle answers and leaves: nothing if the handle is closed, else what the
--- engine's call does to what it holds: the log of all entries, and how many were released.
+-- engine's call does to what it holds: the world that the engine began in, all entries since then,
+-- and how many of them were released.
 use Rattle.std.specs.Prelude.{◌≡◌, ℕ, Option, Some, None, Result, Err}
 use Rattle.ocp_table.specs.declared.answers.Slice.{Slice}
 use Rattle.ocp_table.specs.declared.answers.Round.{Round}

@@ -2,8 +2,7 @@
 use Rattle.std.specs.Prelude.{ℕ, nat_le, if◌then◌else◌, List, ◌++◌, drop, slice_get, Option, Some, None}
 use Rattle.ocp_debug.specs.declared.trace.Trace.{Trace}
 use Rattle.ocp_debug.specs.Traces.{last_traces}
-use Rattle.ocp_core.specs.Log.{world_of}
-use Rattle.ocp_flight.specs.Flown.{Flown}
+use Rattle.ocp_flight.specs.Flown.{Flown, world_of}
 use Rattle.ocp_c.specs.declared.record.Record.{Record}
 use Rattle.ocp_c.specs.declared.status.Status.{Status}
 use Rattle.ocp_c.specs.declared.status.Status.TheVariants as status
@@ -11,7 +10,7 @@ use Rattle.ocp_c.specs.Calls.{outcome_or}
 
 -- the record at an index, the oldest that is kept at 0
 abbrev pub kept_record : Flown → ℕ → Option Trace
-kept_record flown index = slice_get (last_traces (world_of flown.log).traces) index
+kept_record flown index = slice_get (last_traces (world_of flown).traces) index
 
 -- a record as C sees it
 abbrev pub record_of : Trace → Record → Record

@@ -36,7 +36,9 @@ fn request_into(
         held.old reports.old count held.new reports.new) }
     ensures refused { IfErr result (λ why. IsRefused 272 (Request 0 time packet.now)
         held.old reports.old why held.new reports.new) }
+    ensures least { length (reports_in (answer_in held.old (Request 0 time packet.now))) ≤ 272 }
 {
+    held.engine.bounds();
     if reports.len() < 272 {
         return Err(Status::BufferTooSmall);
     }
@@ -60,8 +62,8 @@ pub extern "C" fn ocp_request(
         (answer_in flown (Request 0 time packet.now))) }
     ensures engine { handle.new.held ≡ leaves handle.old.held (λ flown.
         if result == 0 then flown_after flown (Request 0 time packet.now) else flown) }
-    ensures least { (flown : Flown) → length (reports_in
-        (answer_in flown (Request 0 time packet.now))) ≤ 272 }
+    ensures least { (flown : Flown) → handle.old.held ≡ Some flown →
+        length (reports_in (answer_in flown (Request 0 time packet.now))) ≤ 272 }
     ensures reports { reports.new ≡ writes handle.old.held reports.old (λ flown. if result == 0
         then buffer_after (reports_in (answer_in flown (Request 0 time packet.now)))
         reports.old else reports.old) }
@@ -81,7 +83,9 @@ fn drain_into(held: &mut OpenEngine, time: u32, reports: &mut [u8]) -> Result<us
         held.old reports.old count held.new reports.new) }
     ensures refused { IfErr result (λ why. IsRefused 1600 (Drain 0 time)
         held.old reports.old why held.new reports.new) }
+    ensures least { length (reports_in (answer_in held.old (Drain 0 time))) ≤ 1600 }
 {
+    held.engine.bounds();
     if reports.len() < 1600 {
         return Err(Status::BufferTooSmall);
     }
@@ -104,7 +108,7 @@ pub extern "C" fn ocp_drain(
         (answer_in flown (Drain 0 time))) }
     ensures engine { handle.new.held ≡ leaves handle.old.held (λ flown.
         if result == 0 then flown_after flown (Drain 0 time) else flown) }
-    ensures least { (flown : Flown) →
+    ensures least { (flown : Flown) → handle.old.held ≡ Some flown →
         length (reports_in (answer_in flown (Drain 0 time))) ≤ 1600 }
     ensures reports { reports.new ≡ writes handle.old.held reports.old (λ flown. if result == 0
         then buffer_after (reports_in (answer_in flown (Drain 0 time))) reports.old

@@ -23,8 +23,8 @@ use std::marker::Model;
 use std::mem;
 use std::ptr::null_mut;
 
-/// The pointer of an engine, or null while none is open. Contracts see the log of all its entries,
-/// and how many of them were released.
+/// The pointer of an engine, or null while none is open. Contracts see the world that it began in,
+/// all its entries since then, and how many of them were released.
 #[repr(C)]
 pub struct Handle {
     at: *mut u8,

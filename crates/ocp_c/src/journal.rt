@@ -1,7 +1,7 @@
 //! The journal's calls: its room, the entries that it holds, their octets, and their release.
 
 ghost use Rattle.std.specs.Prelude.{◌≡◌, length};
-ghost use Rattle.ocp_flight.specs.Flown.{entry_answer, entry_written, release_after, release_answer, room};
+ghost use Rattle.ocp_flight.specs.Flown.{entry_answer, entry_written, first, release_after, release_answer, room};
 ghost use Rattle.ocp_c.specs.declared.status.Status.TheVariants as status;
 ghost use Rattle.ocp_c.specs.Statuses.{status_of_entry, status_of_release};
 ghost use Rattle.ocp_c.specs.Calls.{answers, leaves, writes};
@@ -40,7 +40,7 @@ pub extern "C" fn ocp_room(
 pub extern "C" fn ocp_first_entry(alloc: Global, handle: &mut Handle, index: &mut u64) -> u32
     ensures status { result ≡ answers handle.old.held (λ flown. status.Done) }
     ensures engine { handle.new.held ≡ handle.old.held }
-    ensures index { index.new ≡ writes handle.old.held index.old (λ flown. flown.released) }
+    ensures index { index.new ≡ writes handle.old.held index.old (λ flown. first flown) }
 {
     let given = handle.with_engine(alloc, |engine| engine.first());
     write_value(given.ok_or(Status::NotOpen), index)
@@ -67,7 +67,7 @@ fn tell_length(given: Result<usize, EntryFault>, told: &mut usize)
     }
 }
 
-/// The octets of an entry, by its index since the engine was opened.
+/// The octets of an entry, by its index, which counts from the first of all.
 #[unsafe(no_mangle)]
 pub extern "C" fn ocp_entry(
     alloc: Global,

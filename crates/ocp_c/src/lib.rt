@@ -3,13 +3,13 @@
 //! The header gives each call's units, and its refusals in their order.
 #![tactic(auto)]
 
-ghost use Rattle.std.specs.Prelude.{◌≡◌, ◌==◌, if◌then◌else◌, length, slice_get, Ok, Err};
+ghost use Rattle.std.specs.Prelude.{◌≡◌, ◌==◌, ◌+◌, if◌then◌else◌, length, slice_get, Ok, Err};
 ghost use Rattle.std.specs.declared.option.Option.TheVariants.{None, Some};
 ghost use Rattle.ocp_debug.specs.declared.command.Command.TheVariants as command;
 ghost use Rattle.ocp_table.specs.Slices.{slice_of};
 ghost use Rattle.ocp_world.specs.World.{Step, Put};
-ghost use Rattle.ocp_core.specs.Log.{expand, world_of};
-ghost use Rattle.ocp_flight.specs.Flown.{Flown};
+ghost use Rattle.ocp_core.specs.Log.{expand};
+ghost use Rattle.ocp_flight.specs.Flown.{Flown, world_of};
 ghost use Rattle.ocp_flight.specs.Calls.{answer_in, flown_after, slice_in, slice_after, round_in, round_after};
 ghost use Rattle.ocp_c.specs.declared.status.Status.{Status as Refusal};
 ghost use Rattle.ocp_c.specs.declared.status.Status.TheVariants as status;
@@ -243,10 +243,10 @@ pub extern "C" fn ocp_pool_word(
     word: &mut u64,
 ) -> u32
     ensures status { result ≡ answers handle.old.held
-        (λ flown. word_status (slice_get (world_of flown.log).pool index)) }
+        (λ flown. word_status (slice_get (world_of flown).pool index)) }
     ensures engine { handle.new.held ≡ handle.old.held }
     ensures word { word.new ≡ writes handle.old.held word.old
-        (λ flown. word_or (slice_get (world_of flown.log).pool index) word.old) }
+        (λ flown. word_or (slice_get (world_of flown).pool index) word.old) }
 {
     match handle.with_engine(alloc, |engine| engine.pool_word(index)) {
         Some(Some(found)) => {
@@ -275,7 +275,7 @@ pub extern "C" fn ocp_events(alloc: Global, handle: &mut Handle, events: &mut u6
     ensures status { result ≡ answers handle.old.held (λ flown. status.Done) }
     ensures engine { handle.new.held ≡ handle.old.held }
     ensures events { events.new ≡ writes handle.old.held events.old
-        (λ flown. length (expand flown.log.entries)) }
+        (λ flown. flown.base.events + length (expand flown.entries)) }
 {
     let given = handle.with_engine(alloc, |engine| engine.events());
     write_value(given.ok_or(Status::NotOpen), events)

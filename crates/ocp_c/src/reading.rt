@@ -6,8 +6,7 @@ ghost use Rattle.std.specs.declared.option.Option.TheVariants.{None, Some};
 ghost use Rattle.ocp_table.specs.Shown.{view_at};
 ghost use Rattle.ocp_debug.specs.Memory.{memory_at};
 ghost use Rattle.ocp_world.specs.NextRunning.{IsNextRunning, Runs};
-ghost use Rattle.ocp_core.specs.Log.{world_of};
-ghost use Rattle.ocp_flight.specs.Flown.{Flown};
+ghost use Rattle.ocp_flight.specs.Flown.{Flown, world_of};
 ghost use Rattle.ocp_c.specs.declared.status.Status.TheVariants as status;
 ghost use Rattle.ocp_c.specs.Statuses.{number_of};
 ghost use Rattle.ocp_c.specs.Calls.{answers, writes};
@@ -38,12 +37,12 @@ pub extern "C" fn ocp_next_running(
     ensures closed { handle.old.held ≡ None → result ≡ number_of status.NotOpen }
     ensures engine { handle.new.held ≡ handle.old.held }
     ensures next { (flown : Flown) → handle.old.held ≡ Some flown → result ≡ number_of status.Done →
-        IsNextRunning (world_of flown.log).records (identifier_in after) (Some id.new) }
+        IsNextRunning (world_of flown).records (identifier_in after) (Some id.new) }
     ensures refused { (flown : Flown) → handle.old.held ≡ Some flown →
         result ≢ number_of status.Done → result ≡ number_of status.NoneRunning }
     ensures none { (flown : Flown) → handle.old.held ≡ Some flown →
         result ≡ number_of status.NoneRunning →
-        (id : ℕ) → Runs (world_of flown.log).records id → ⊥ }
+        (id : ℕ) → Runs (world_of flown).records id → ⊥ }
     ensures same { result ≢ number_of status.Done → id.new ≡ id.old }
 {
     let after = u16::try_from(after).ok();
@@ -63,10 +62,10 @@ pub extern "C" fn ocp_memory(
     octets: &mut [u8],
 ) -> u32
     ensures status { result ≡ answers handle.old.held (λ flown. status_of_read
-        (memory_at (get (world_of flown.log).records id) address (length octets.old))) }
+        (memory_at (get (world_of flown).records id) address (length octets.old))) }
     ensures engine { handle.new.held ≡ handle.old.held }
     ensures octets { octets.new ≡ writes handle.old.held octets.old (λ flown. octets_or
-        (memory_at (get (world_of flown.log).records id) address (length octets.old)) octets.old) }
+        (memory_at (get (world_of flown).records id) address (length octets.old)) octets.old) }
 {
     let Some(held) = handle.take(alloc) else {
         return Status::NotOpen.number();
@@ -86,12 +85,12 @@ pub extern "C" fn ocp_view(
     registers: &mut [u64],
 ) -> u32
     ensures status { result ≡ answers handle.old.held (λ flown.
-        view_status (length registers.old) (view_at (get (world_of flown.log).records id))) }
+        view_status (length registers.old) (view_at (get (world_of flown).records id))) }
     ensures engine { handle.new.held ≡ handle.old.held }
     ensures view { view.new ≡ writes handle.old.held view.old (λ flown. procedure_or
-        (length registers.old) (view_at (get (world_of flown.log).records id)) view.old) }
+        (length registers.old) (view_at (get (world_of flown).records id)) view.old) }
     ensures registers { registers.new ≡ writes handle.old.held registers.old (λ flown.
-        registers_or (length registers.old) (view_at (get (world_of flown.log).records id))
+        registers_or (length registers.old) (view_at (get (world_of flown).records id))
         registers.old) }
 {
     if registers.len() < REGISTERS {

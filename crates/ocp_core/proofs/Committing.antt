@@ -3,11 +3,12 @@ use Rattle.std.proofs.Common.{◌≡◌, ◌≤◌, ℕ, zero, suc, Bool, true, 
 use Rattle.std.specs.FinMap.{get}
 use Rattle.obcp_types.specs.declared.status.Status.{Status}
 use Rattle.obcp_types.specs.declared.status.Status.TheVariants.{Inactive, Running, Held}
-use Rattle.bpf_step.specs.Machine.{State as Machined}
+use Rattle.bpf_step.specs.Machine.{State as Machined, HasAddressesOf}
+use Rattle.bpf_step.specs.Runs.{local_run}
 use Rattle.bpf_step.specs.Step.{StandsIn}
 use Rattle.ocp_table.specs.Budgets.{IsWithin}
 use Rattle.ocp_table.specs.Records.{Rec}
-use Rattle.ocp_table.specs.Snapshots.{Snapshot, snapshot_of, snapshot_by, snapshot_at, run_of, StandsAt, machine_for}
+use Rattle.ocp_table.specs.Snapshots.{Snapshot, snapshot_of, snapshot_by, snapshot_at, run_of, IsFor, StandsAt, machine_for}
 use Rattle.ocp_world.specs.World.{World, Step}
 use Rattle.ocp_world.specs.After.{Answer, Stepped, after}
 use Rattle.ocp_world.specs.Replay.{replay_from, answers}
@@ -70,10 +71,16 @@ alone log w some fresh run found = record {
   ran = subst (λ s. run_of s w.count ≡ Some w.end) (sym found.same) run.ran;
 }
 
--- the machine that is put back is at an instruction of the procedure
-stands_at : (o : Option Rec) (base : Snapshot) (machine : Machined) → IsOf o base → StandsIn base.image machine → StandsAt o machine
-stands_at o base machine found stands =
-    subst (λ x. StandsAt x machine) (sym found.held) (subst (λ s. StandsIn s.image machine) (sym found.same) stands)
+-- what the law states of the addresses of a machine that runs
+abbrev pub KeepAddresses : Type 0
+KeepAddresses = (image breakpoints : List ℕ) (pass : Bool) (s t : Machined) (n : ℕ) → local_run image breakpoints pass s n ≡ Some t → HasAddressesOf s t
+
+-- the machine that is put back may take the place of the procedure's own
+pub may_settle : KeepAddresses → (o : Option Rec) (w : WorkContents) → snapshot_at o ≡ Some w.base → IsRun w → StandsAt o w.end
+may_settle law o w is run =
+    let found = is_of o w.base is in
+    let addresses = law w.base.image w.base.breakpoints w.base.pass w.base.machine w.end w.count run.ran in
+    subst (λ x. StandsAt x w.end) (sym found.held) (subst (λ s. IsFor s.image s.machine w.end) (sym found.same) (record { stands = run.stands; addresses = addresses }))
 
 -- and the one that is given for it is that of the snapshot
 given_at : (o : Option Rec) (base : Snapshot) (machine : Machined) → IsOf o base → machine_for o machine ≡ base.machine
@@ -97,11 +104,6 @@ world_committed law log new by w some fresh run is =
     ap world_of is ∙ world_of-with_entry log (Steps by w.id w.count) ∙ events_settle law log by w some fresh run
 
 module _ {A : Type 0} where
-  pub may_settle : (log : Log) (w : WorkContents) (s : State A) → IsWorld (world_of log) s → IsFresh log w → IsRun w → StandsAt (get s.table.records w.id) w.end
-  may_settle log w s stands fresh run =
-      subst (λ m. StandsAt (get m w.id) w.end) (sym stands.records)
-      (stands_at (get (world_of log).records w.id) w.base w.end (is_of (get (world_of log).records w.id) w.base fresh) run.stands)
-
   -- the state after a commit represents the new journal's world
   pub IsWorld-committed : AreEvents → (log new : Log) (by : ℕ) (w : WorkContents) (s : State A) → (w.count ≡ 0 → ⊥) → IsFresh log w → IsRun w → new ≡ with_entry log (Steps by w.id w.count) → IsWorld (world_after_work w.id w.end w.count (world_of log)) s → IsWorld (world_of new) s
   IsWorld-committed law log new by w s some fresh run is stands =

@@ -361,7 +361,7 @@ roomy_event w (world.Debug by id c) = roomy w _ (numbered_debug w c id)
 roomy_event w (world.Drain by time) = roomy_drain (has_no_place w) time w.outbox
 roomy_event w (world.Put by index value) = roomy w _ (numbered_put w (nat_lt index (length w.pool)) index value)
 
-places_step : (w : World) (e : Event) → HasPlaces w.records w.outbox → HasPlaces (after w e).world.records (after w e).world.outbox
+pub places_step : (w : World) (e : Event) → HasPlaces w.records w.outbox → HasPlaces (after w e).world.records (after w e).world.outbox
 places_step w e fits = outbox_fits w.records w.outbox fits (effect_of w e).on_records (roomy_event w e)
 
 pub places_suffice : PlacesSuffice

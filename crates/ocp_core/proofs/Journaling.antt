@@ -18,23 +18,23 @@ same_outcome a b is = cc
 -- ---- the octets of a request
 
 -- the application process identifier stays
-replay_from-apid : (w : World) (es : List Event) → (replay_from w es).apid ≡ w.apid
+pub replay_from-apid : (w : World) (es : List Event) → (replay_from w es).apid ≡ w.apid
 replay_from-apid w [] = refl
 replay_from-apid w (e ∷ es) = replay_from-apid (after w e).world es
 
-world_of-apid : (log : Log) → (world_of log).apid ≡ log.apid
+pub world_of-apid : (log : Log) → (world_of log).apid ≡ log.apid
 unfolding world_of
 world_of-apid log = replay_from-apid _ (expand log.entries)
 
--- octets that are read for the journal's application process are read for that of its world
-pub as_read : (log : Log) (octets : List ℕ) (apid : ℕ) → apid ≡ log.apid → (read : Result Telecommand TcFault) → read ≡ telecommand_of apid octets → read ≡ telecommand_of (world_of log).apid octets
-as_read log octets apid named read is = is ∙ ap (λ a. telecommand_of a octets) (named ∙ sym (world_of-apid log))
+-- octets that are read for an application process are read for that of a world that has it
+pub as_read : (w : World) (octets : List ℕ) (apid : ℕ) → apid ≡ w.apid → (read : Result Telecommand TcFault) → read ≡ telecommand_of apid octets → read ≡ telecommand_of w.apid octets
+as_read w octets apid named read is = is ∙ ap (λ a. telecommand_of a octets) named
 
 -- why the world discards the octets that were read, if it does; if not, it accepts the request
-module _ (log : Log) (by time : ℕ) (octets : List ℕ) (apid : ℕ) (named : apid ≡ log.apid) (read : Result Telecommand TcFault) (is : read ≡ telecommand_of apid octets) (cause : Option Discard)
-    (told : (w : World) (by time : ℕ) (octets : List ℕ) → read ≡ telecommand_of w.apid octets → IsDiscard (after w (Request by time octets)).answer cause) where
-  pub discard_at : IsDiscard (after (world_of log) (Request by time octets)).answer cause
-  discard_at = told (world_of log) by time octets (as_read log octets apid named read is)
+module _ (w : World) (by time : ℕ) (octets : List ℕ) (apid : ℕ) (named : apid ≡ w.apid) (read : Result Telecommand TcFault) (is : read ≡ telecommand_of apid octets) (cause : Option Discard)
+    (told : (v : World) (by time : ℕ) (octets : List ℕ) → read ≡ telecommand_of v.apid octets → IsDiscard (after v (Request by time octets)).answer cause) where
+  pub discard_at : IsDiscard (after w (Request by time octets)).answer cause
+  discard_at = told w by time octets (as_read w octets apid named read is)
 
-  pub taken_at : cause ≡ None → is_accepted (after (world_of log) (Request by time octets)).answer ≡ true
-  taken_at none = subst (IsDiscard (after (world_of log) (Request by time octets)).answer) none discard_at
+  pub taken_at : cause ≡ None → is_accepted (after w (Request by time octets)).answer ≡ true
+  taken_at none = subst (IsDiscard (after w (Request by time octets)).answer) none discard_at

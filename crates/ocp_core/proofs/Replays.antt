@@ -1,27 +1,14 @@
 -- Replays of lists of events and of journals, one after another.
 use Rattle.std.proofs.Common.{◌≡◌, ◌+◌, List, [], ◌∷◌, ◌++◌, length, refl, ap, ◌∙◌, length-append}
-use Rattle.std.proofs.lemmas.List.{append-nil}
-use Rattle.std.proofs.lemmas.Grind.{flat_map-append}
 use Rattle.ocp_world.specs.World.{World, Event}
 use Rattle.ocp_world.specs.After.{after}
-use Rattle.ocp_world.specs.Replay.{replay_from, replay, answers}
-use Rattle.ocp_core.specs.Log.{Log, Entry, events_of, expand, with_entry, world_of}
-
-pub replay_from-append : (w : World) (xs ys : List Event) → replay_from w (xs ++ ys) ≡ replay_from (replay_from w xs) ys
-replay_from-append w [] ys = refl
-replay_from-append w (x ∷ xs) ys = replay_from-append (after w x).world xs ys
+use Rattle.ocp_world.specs.Replay.{replay_from, answers}
+use Rattle.ocp_core.specs.Log.{Entry, events_of, expand}
+pub use Rattle.ocp_core.specs.Mirror.Replays.{replay_from-append, expand-with_entry, world_of-with_entry}
 
 pub answers-append : (w : World) (xs ys : List Event) → answers w (xs ++ ys) ≡ answers w xs ++ answers (replay_from w xs) ys
 answers-append w [] ys = refl
 answers-append w (x ∷ xs) ys = ap (λ rest. (after w x).answer ∷ rest) (answers-append (after w x).world xs ys)
 
-pub expand-with_entry : (entries : List Entry) (e : Entry) → expand (entries ++ e ∷ []) ≡ expand entries ++ events_of e
-expand-with_entry entries e = flat_map-append events_of entries (e ∷ []) ∙ ap (λ es. expand entries ++ es) (append-nil (events_of e))
-
 pub length-expand-with_entry : (entries : List Entry) (e : Entry) → length (expand (entries ++ e ∷ [])) ≡ length (expand entries) + length (events_of e)
 length-expand-with_entry entries e = ap length (expand-with_entry entries e) ∙ length-append (expand entries) (events_of e)
-
--- a journal with one more entry is replayed by that entry's events
-pub world_of-with_entry : (log : Log) (e : Entry) → world_of (with_entry log e) ≡ replay_from (world_of log) (events_of e)
-unfolding world_of
-world_of-with_entry log e = ap (replay log.profile log.apid log.words) (expand-with_entry log.entries e) ∙ replay_from-append _ (expand log.entries) (events_of e)

@@ -139,7 +139,7 @@ module _ (keeps : (w : World) (e : Event) → is_accepted (after w e).answer ≡
   refused_done : (fault : EngineFault) → is_full_answer (Requested (Err fault)) ≡ false → Requested (Err fault) ≡ answer_in log e → new ≡ log → IsDone log new e (Requested (Err fault))
   refused_done fault roomy told same =
       let done = done_event log e (Requested (Err fault)) told roomy in
-      done_so (Requested (Err fault)) told roomy (same ∙ refused_store (λ l. l) (λ l x. is_full l) with_entry log e (sym (ap is_accepted done.0)))
+      done_so (Requested (Err fault)) told roomy (same ∙ refused_store world_of (λ l x. is_full l) with_entry log e (sym (ap is_accepted done.0)))
 
   -- one that is not refused is done
   pub accepted_so : (a : Answer) → refusal_of a ≡ None → Enters log new e a → IsDone log new e a

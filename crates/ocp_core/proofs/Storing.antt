@@ -16,11 +16,10 @@ use Rattle.ocp_world.specs.Replay.{replay_from}
 use Rattle.ocp_world.specs.Slice.{goes_on, next_outcome, slice_count, slice_last}
 use Rattle.ocp_world.specs.Mirror.Answering.{IsDiscard, IsUndue}
 use Rattle.ocp_world.specs.Mirror.State.{IsWorld}
-use Rattle.ocp_core.specs.Log.{Log, Entry, Steps, entry_for, events_of, full_answer, answer_with, with_entry, world_of}
+use Rattle.ocp_core.specs.Log.{Entry, Steps, entry_for, events_of, full_answer, answer_with}
 use Rattle.ocp_core.specs.Slice.{slice_with}
 use Rattle.ocp_core.specs.Stores.{event_store, slice_store}
 use Rattle.ocp_core.proofs.Journaling.{same_outcome}
-use Rattle.ocp_core.proofs.Keeping.{IsWorld-with_entry}
 
 -- ---- what is left of a value that becomes another if it is taken and there is room
 
@@ -34,36 +33,36 @@ module _ {X : Type 0} (taken full : Bool) (old done : X) where
   done_left : (new : X) → taken ≡ true → full ≡ false → new ≡ done → new ≡ cond taken (cond full old done) old
   done_left new is room same = same ∙ ap (λ b. cond b old done) (sym room) ∙ ap (λ b. cond b (cond full old done) old) (sym is)
 
-module _ {S : Type 0} (log : S → Log) (is_full : S → Entry → Bool) (with_one : S → Entry → S) (s : S) where
+module _ {S : Type 0} (world : S → World) (is_full : S → Entry → Bool) (with_one : S → Entry → S) (s : S) where
   -- what an event leaves
   module _ (e : Event) where
     abbrev taken : Bool
-    taken = is_accepted (after (world_of (log s)) e).answer
+    taken = is_accepted (after (world s) e).answer
 
-    pub refused_store : taken ≡ false → s ≡ event_store log is_full with_one s e
+    pub refused_store : taken ≡ false → s ≡ event_store world is_full with_one s e
     refused_store = refused_left taken (is_full s (entry_for e)) s (with_one s (entry_for e))
 
-    pub full_store : taken ≡ true → is_full s (entry_for e) ≡ true → s ≡ event_store log is_full with_one s e
+    pub full_store : taken ≡ true → is_full s (entry_for e) ≡ true → s ≡ event_store world is_full with_one s e
     full_store = full_left taken (is_full s (entry_for e)) s (with_one s (entry_for e))
 
-    pub done_store : (new : S) → taken ≡ true → is_full s (entry_for e) ≡ false → new ≡ with_one s (entry_for e) → new ≡ event_store log is_full with_one s e
+    pub done_store : (new : S) → taken ≡ true → is_full s (entry_for e) ≡ false → new ≡ with_one s (entry_for e) → new ≡ event_store world is_full with_one s e
     done_store = done_left taken (is_full s (entry_for e)) s (with_one s (entry_for e))
 
   -- what a slice leaves
   module _ (by id budget : ℕ) where
     abbrev begun : Bool
-    begun = is_accepted (after (world_of (log s)) (Step by id)).answer
+    begun = is_accepted (after (world s) (Step by id)).answer
 
     abbrev sliced : S
-    sliced = with_one s (Steps by id (slice_count (world_of (log s)) by id budget))
+    sliced = with_one s (Steps by id (slice_count (world s) by id budget))
 
-    pub refused_slice_store : begun ≡ false → s ≡ slice_store log is_full with_one s by id budget
+    pub refused_slice_store : begun ≡ false → s ≡ slice_store world is_full with_one s by id budget
     refused_slice_store = refused_left begun (is_full s (Steps by id 1)) s sliced
 
-    pub full_slice_store : begun ≡ true → is_full s (Steps by id 1) ≡ true → s ≡ slice_store log is_full with_one s by id budget
+    pub full_slice_store : begun ≡ true → is_full s (Steps by id 1) ≡ true → s ≡ slice_store world is_full with_one s by id budget
     full_slice_store = full_left begun (is_full s (Steps by id 1)) s sliced
 
-    pub done_slice_store : (new : S) (n : ℕ) → begun ≡ true → is_full s (Steps by id 1) ≡ false → n ≡ slice_count (world_of (log s)) by id budget → new ≡ with_one s (Steps by id n) → new ≡ slice_store log is_full with_one s by id budget
+    pub done_slice_store : (new : S) (n : ℕ) → begun ≡ true → is_full s (Steps by id 1) ≡ false → n ≡ slice_count (world s) by id budget → new ≡ with_one s (Steps by id n) → new ≡ slice_store world is_full with_one s by id budget
     done_slice_store new n is room count same = done_left begun (is_full s (Steps by id 1)) s sliced new is room (same ∙ ap (λ k. with_one s (Steps by id k)) count)
 
 -- ---- the answer of an event
@@ -150,11 +149,11 @@ answered_by w by id false full = refl
 pub step_answered : (full : Bool) (w : World) (by id : ℕ) → Stepped (slice_with full w by id 1).last ≡ answer_with full w (Step by id)
 step_answered full w by id = answered_by w by id (is_accepted (after w (Step by id)).answer) full
 
-pub step_left : {S : Type 0} (log : S → Log) (is_full : S → Entry → Bool) (with_one : S → Entry → S) (s : S) (by id : ℕ) → slice_store log is_full with_one s by id 1 ≡ event_store log is_full with_one s (Step by id)
-step_left log is_full with_one s by id = ap (λ n. cond (is_accepted (after (world_of (log s)) (Step by id)).answer) (cond (is_full s (Steps by id 1)) s (with_one s (Steps by id n))) s) (one_count (world_of (log s)) by id)
+pub step_left : {S : Type 0} (world : S → World) (is_full : S → Entry → Bool) (with_one : S → Entry → S) (s : S) (by id : ℕ) → slice_store world is_full with_one s by id 1 ≡ event_store world is_full with_one s (Step by id)
+step_left world is_full with_one s by id = ap (λ n. cond (is_accepted (after (world s) (Step by id)).answer) (cond (is_full s (Steps by id 1)) s (with_one s (Steps by id n))) s) (one_count (world s) by id)
 
 -- ---- the world of a store that gains an entry
 
-module _ {A S : Type 0} (log : S → Log) (with_one : S → Entry → S) (law : (s : S) (e : Entry) → log (with_one s e) ≡ with_entry (log s) e) where
-  pub IsWorld-pushed : (old new : S) (e : Entry) (s : State A) → new ≡ with_one old e → IsWorld (replay_from (world_of (log old)) (events_of e)) s → IsWorld (world_of (log new)) s
-  IsWorld-pushed old new e s is stands = IsWorld-with_entry (log old) (log new) e s (ap log is ∙ law old e) stands
+module _ {A S : Type 0} (world : S → World) (with_one : S → Entry → S) (law : (s : S) (e : Entry) → world (with_one s e) ≡ replay_from (world s) (events_of e)) where
+  pub IsWorld-pushed : (old new : S) (e : Entry) (s : State A) → new ≡ with_one old e → IsWorld (replay_from (world old) (events_of e)) s → IsWorld (world new) s
+  IsWorld-pushed old new e s is stands = subst (λ w. IsWorld w s) (sym (ap world is ∙ law old e)) stands

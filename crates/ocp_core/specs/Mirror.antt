@@ -3,3 +3,4 @@ pub mod Kept
 pub mod Admitted
 pub mod Counted
 pub mod Tickets
+pub mod Replays

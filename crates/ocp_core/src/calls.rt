@@ -8,7 +8,7 @@ ghost use Rattle.ocp_world.specs.World as world;
 ghost use Rattle.ocp_world.specs.declared.answers.EngineFault.TheVariants as engine;
 ghost use Rattle.ocp_world.specs.Mirror.State.{IsWorld, with_packets};
 ghost use Rattle.ocp_core.specs.Log as logs;
-ghost use Rattle.ocp_core.specs.Clauses.{MAX_POOL_WORDS, Answers, Commanded, Debug, Put, Stepped, Written, answer_at, most_events, round_at, slice_at, slice_store, event_store, world_of};
+ghost use Rattle.ocp_core.specs.Clauses.{MAX_POOL_WORDS, Answers, Commanded, Debug, Put, Stepped, Written, answer_at, most_events, round_at, slice_at, slice_store, event_store};
 
 use crate::{
     Command, DebugFault, EngineFault, Event, PutFault, RequestStore, Round, StepOutcome, Store,
@@ -33,14 +33,14 @@ pub fn instructions<S: Store, A: Allocator>(
     extent: Extent,
 ) -> Round
     requires some { 1 ≤ budget }
-    requires stands { IsWorld (world_of (S.log store.old)) state.old }
-    ensures slice { slice_of result ≡ slice_at S.log S.is_full store.old by id
-        (most_events extent (world_of (S.log store.old)) by id budget) }
+    requires stands { IsWorld (S.world store.old) state.old }
+    ensures slice { slice_of result ≡ slice_at S.world S.is_full store.old by id
+        (most_events extent (S.world store.old) by id budget) }
     ensures round { extent ≡ extents.Round →
-        result ≡ round_at S.log S.is_full store.old by id budget }
-    ensures store { store.new ≡ slice_store S.log S.is_full S.with_entry store.old by id
-        (most_events extent (world_of (S.log store.old)) by id budget) }
-    ensures world { IsWorld (world_of (S.log store.new)) state.new }
+        result ≡ round_at S.world S.is_full store.old by id budget }
+    ensures store { store.new ≡ slice_store S.world S.is_full S.with_entry store.old by id
+        (most_events extent (S.world store.old) by id budget) }
+    ensures world { IsWorld (S.world store.new) state.new }
     ensures within { result.count ≤ budget }
 {
     // Without room none is done, and only the refusal is looked for.
@@ -80,12 +80,12 @@ pub fn step<S: Store, A: Allocator>(
     by: u16,
     id: u16,
 ) -> StepOutcome
-    requires stands { IsWorld (world_of (S.log store.old)) state.old }
+    requires stands { IsWorld (S.world store.old) state.old }
     ensures answer { Stepped result ≡
-        answer_at S.log S.is_full store.old (world.Step by id) }
+        answer_at S.world S.is_full store.old (world.Step by id) }
     ensures store { store.new ≡
-        event_store S.log S.is_full S.with_entry store.old (world.Step by id) }
-    ensures world { IsWorld (world_of (S.log store.new)) state.new }
+        event_store S.world S.is_full S.with_entry store.old (world.Step by id) }
+    ensures world { IsWorld (S.world store.new) state.new }
 {
     instructions(store, state, by, id, 1, Extent::Slice).last
 }
@@ -99,12 +99,12 @@ pub fn command<S: Store, A: Allocator>(
     id: u16,
     command: Command,
 ) -> Result<(), DebugFault>
-    requires stands { IsWorld (world_of (S.log store.old)) state.old }
+    requires stands { IsWorld (S.world store.old) state.old }
     ensures answer { Commanded result ≡
-        answer_at S.log S.is_full store.old (Debug by id command) }
+        answer_at S.world S.is_full store.old (Debug by id command) }
     ensures store { store.new ≡
-        event_store S.log S.is_full S.with_entry store.old (Debug by id command) }
-    ensures world { IsWorld (world_of (S.log store.new)) state.new }
+        event_store S.world S.is_full S.with_entry store.old (Debug by id command) }
+    ensures world { IsWorld (S.world store.new) state.new }
 {
     let decided = state.decide(id, command)?;
     if store.is_full(&Event::of_command(by, id, command)) {
@@ -125,12 +125,12 @@ pub fn put_word<S: Store, A: Allocator>(
     index: u64,
     value: u64,
 ) -> Result<(), PutFault>
-    requires stands { IsWorld (world_of (S.log store.old)) state.old }
+    requires stands { IsWorld (S.world store.old) state.old }
     ensures answer { Written result ≡
-        answer_at S.log S.is_full store.old (Put by index value) }
+        answer_at S.world S.is_full store.old (Put by index value) }
     ensures store { store.new ≡
-        event_store S.log S.is_full S.with_entry store.old (Put by index value) }
-    ensures world { IsWorld (world_of (S.log store.new)) state.new }
+        event_store S.world S.is_full S.with_entry store.old (Put by index value) }
+    ensures world { IsWorld (S.world store.new) state.new }
     ensures word { OnOk result (index < MAX_POOL_WORDS) }
 {
     let Some(word) = state.word_index(index) else {
@@ -156,15 +156,15 @@ pub fn request<S: RequestStore, A: Allocator>(
     octets: &[u8],
     packets: &mut PacketBuffer<A>,
 ) -> Result<S::Receipt, EngineFault>
-    requires stands { IsWorld (world_of (S.log store.old)) state.old }
+    requires stands { IsWorld (S.world store.old) state.old }
     ensures answer { Answers (with_packets result packets.new)
-        (answer_at S.log S.is_full store.old (world.Request by time octets.now)) }
+        (answer_at S.world S.is_full store.old (world.Request by time octets.now)) }
     ensures store { OnOk result (store.new ≡
-        event_store S.log S.is_full S.with_entry store.old (world.Request by time octets.now)) }
+        event_store S.world S.is_full S.with_entry store.old (world.Request by time octets.now)) }
     ensures err { OnErr result (store.new ≡ store.old) }
     ensures receipt { IfOk result (λ receipt.
         S.is_receipt receipt (logs.Asked by time octets.now) packets.new) }
-    ensures world { IsWorld (world_of (S.log store.new)) state.new }
+    ensures world { IsWorld (S.world store.new) state.new }
     ensures memory { result ≡ Err engine.Memory → S.Keeper.refused keeper.new ≡ true }
 {
     let read = read_tc(store.apid(), octets);
@@ -191,15 +191,15 @@ pub fn drain<S: RequestStore, A: Allocator>(
     time: u32,
     packets: &mut PacketBuffer<A>,
 ) -> Result<S::Receipt, EngineFault>
-    requires stands { IsWorld (world_of (S.log store.old)) state.old }
+    requires stands { IsWorld (S.world store.old) state.old }
     ensures answer { Answers (with_packets result packets.new)
-        (answer_at S.log S.is_full store.old (world.Drain by time)) }
+        (answer_at S.world S.is_full store.old (world.Drain by time)) }
     ensures store { OnOk result (store.new ≡
-        event_store S.log S.is_full S.with_entry store.old (world.Drain by time)) }
+        event_store S.world S.is_full S.with_entry store.old (world.Drain by time)) }
     ensures err { OnErr result (store.new ≡ store.old) }
     ensures receipt { IfOk result (λ receipt.
         S.is_receipt receipt (logs.Drained by time) packets.new) }
-    ensures world { IsWorld (world_of (S.log store.new)) state.new }
+    ensures world { IsWorld (S.world store.new) state.new }
     ensures memory { result ≡ Err engine.Memory → S.Keeper.refused keeper.new ≡ true }
 {
     if !state.is_due() {

@@ -6,6 +6,7 @@ ghost use Rattle.ocp_core.specs.Clauses.{Commits, Grows, commit_entries, get, Ti
 
 use crate::ticket::Parts;
 use crate::{CommitOutcome, Engine, Event, StepOutcome, Store, Ticket, Work};
+use bpf_step::laws::runs_keep_the_addresses;
 use ocp_table::Snapshot;
 use ocp_world::instructions_done_alone_are_events;
 use std::alloc::{AllocError, Allocator};
@@ -68,6 +69,7 @@ impl<A: Allocator> Engine<A> {
         ensures work { work.new ≡ work_after work.old result }
     {
         instructions_done_alone_are_events();
+        runs_keep_the_addresses();
         let id = work.id;
         let count = work.count;
         if count == 0 {

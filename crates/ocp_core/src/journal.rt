@@ -125,7 +125,7 @@ impl<A: Allocator> Journal<A> {
     /// given.
     fn push(&mut self, events: u32, entry: Entry<A>)
         requires events { events ≡ length (events_of (entry_of entry)) }
-        requires may { MayAdd (λ log. log) (λ log e. is_full log) self.old (entry_of entry)
+        requires may { MayAdd (λ log. world_of log) (λ log e. is_full log) self.old (entry_of entry)
             (mark_of entry) }
         ensures { self.new ≡ with_entry self.old (entry_of entry) }
     {
@@ -137,14 +137,15 @@ impl<A: Allocator> Journal<A> {
 impl<A: Allocator> Store for Journal<A> {
     ghost use Rattle.ocp_core.specs.Log as logs;
     ghost use Rattle.std.specs.Prelude.{refl};
+    ghost use Rattle.ocp_core.specs.Mirror.Replays.{world_of-with_entry};
 
-    ghost log = { λ log. log };
+    ghost world = { λ log. world_of log };
 
     ghost is_full = { λ log e. is_full log };
 
     ghost with_entry = { λ log e. logs.with_entry log e };
 
-    ghost logs_entry = { λ log e. refl };
+    ghost replays_entry = { λ log e. world_of-with_entry log e };
 
     ghost fills_alike = { λ log by id count other. refl };
 

@@ -2,7 +2,7 @@
 
 ghost use Rattle.std.specs.Prelude.{◌≡◌, ◌≤◌, ℕ, Bool, true, List, Ok, IfOk, OnErr};
 ghost use Rattle.ocp_core.specs.Log as logs;
-ghost use Rattle.ocp_core.specs.Clauses.{MAX_APID, Commanded, MayAdd, MayAddReports, Stepped, Written, entry_for, event_of, world_of};
+ghost use Rattle.ocp_core.specs.Clauses.{MAX_APID, Commanded, MayAdd, MayAddReports, Stepped, World, Written, entry_for, event_of, replay_from};
 
 use crate::{Command, Event, StepOutcome};
 use ocp_world::Keeps;
@@ -11,8 +11,8 @@ use std::alloc::AllocError;
 
 /// A store of the entries of an engine. The calls of `calls` are written over it.
 pub trait Store {
-    // All entries since the engine was opened, with the engine's parameters.
-    ghost log: { Self → logs.Log };
+    // The world that the engine is in: the replay of all entries from the world that it began with.
+    ghost world: { Self → World };
 
     // There is no room for this entry.
     ghost is_full: { Self → logs.Entry → Bool };
@@ -22,12 +22,12 @@ pub trait Store {
 
     /// The engine's application process identifier.
     fn apid(&self) -> Apid
-        ensures value { result ≡ (log self.now).apid }
+        ensures value { result ≡ (world self.now).apid }
         ensures in_range { result ≤ MAX_APID };
 
-    /// The number of the next event: how many were accepted since the engine was opened.
+    /// The number of the next event: how many were accepted.
     fn events(&self) -> u64
-        ensures { result ≡ (world_of (log self.now)).events };
+        ensures { result ≡ (world self.now).events };
 
     /// Whether there is no room for the entry of an event. That of one instruction needs the room
     /// of any number of them.
@@ -37,22 +37,22 @@ pub trait Store {
     /// Adds the entry of instructions, all of them accepted, with the outcome of the last.
     fn push_steps(&mut self, by: u16, id: u16, count: u32, last: StepOutcome)
         requires some { 1 ≤ count }
-        requires may { MayAdd log is_full self.old (logs.Steps by id count) (Stepped last) }
+        requires may { MayAdd world is_full self.old (logs.Steps by id count) (Stepped last) }
         ensures { self.new ≡ with_entry self.old (logs.Steps by id count) };
 
     /// Adds the entry of a debugger's command that was done.
     fn push_command(&mut self, by: u16, id: u16, command: Command)
-        requires { MayAdd log is_full self.old (logs.Debugged by id command) (Commanded (Ok tt)) }
+        requires { MayAdd world is_full self.old (logs.Debugged by id command) (Commanded (Ok tt)) }
         ensures { self.new ≡ with_entry self.old (logs.Debugged by id command) };
 
     /// Adds the entry of a write of a pool word that was done.
     fn push_word(&mut self, by: u16, index: u16, value: u64)
-        requires { MayAdd log is_full self.old (logs.Wrote by index value) (Written (Ok tt)) }
+        requires { MayAdd world is_full self.old (logs.Wrote by index value) (Written (Ok tt)) }
         ensures { self.new ≡ with_entry self.old (logs.Wrote by index value) };
 
-    // The entry is one more of the log.
-    ghost logs_entry: { (s : Self) (e : logs.Entry) →
-        log (with_entry s e) ≡ logs.with_entry (log s) e };
+    // The world with one entry more is that after the entry's events.
+    ghost replays_entry: { (s : Self) (e : logs.Entry) →
+        world (with_entry s e) ≡ replay_from (world s) (logs.events_of e) };
 
     // A slice asks for room before it knows how many instructions it does.
     ghost fills_alike: { (s : Self) (by id count other : ℕ) →
@@ -91,7 +91,7 @@ pub trait RequestStore: Store {
         kept: <Self::Keeper as Keeps>::Kept,
     ) -> Self::Receipt
         requires copied { keeps_octets copy octets.now }
-        requires may { MayAddReports Self.log Self.is_full Self.Keeper.holds kept self.old
+        requires may { MayAddReports Self.world Self.is_full Self.Keeper.holds kept self.old
             (logs.Asked by time octets.now) }
         ensures store { self.new ≡ Self.with_entry self.old (logs.Asked by time octets.now) }
         ensures receipt { (reports : List (List ℕ)) → Self.Keeper.holds kept reports →
@@ -104,7 +104,7 @@ pub trait RequestStore: Store {
         time: u32,
         kept: <Self::Keeper as Keeps>::Kept,
     ) -> Self::Receipt
-        requires { MayAddReports Self.log Self.is_full Self.Keeper.holds kept self.old
+        requires { MayAddReports Self.world Self.is_full Self.Keeper.holds kept self.old
             (logs.Drained by time) }
         ensures store { self.new ≡ Self.with_entry self.old (logs.Drained by time) }
         ensures receipt { (reports : List (List ℕ)) → Self.Keeper.holds kept reports →

@@ -2,6 +2,8 @@ pub mod Cut
 pub mod Places
 pub mod Pushing
 pub mod Insides
+pub mod Worlds
+pub mod Bounds
 pub mod ReadBack
 pub mod Storing
 pub mod Entering

@@ -8,8 +8,8 @@ use Rattle.circular_buffer.proofs.Places.{slice_get-drop}
 use Rattle.ocp_core.specs.Log.{Entry}
 use Rattle.ocp_flight.specs.declared.faults.EntryFault.TheVariants.{Released, NotYet, TooShort}
 use Rattle.ocp_flight.specs.Entries.{entry_octets}
-use Rattle.ocp_flight.specs.Flown.{length_told, octets_written, entry_answer, entry_written}
-use Rattle.ocp_flight.specs.Mirror.Kept.{entries_read, flown_of, IsKept}
+use Rattle.ocp_flight.specs.Flown.{first, length_told, octets_written, entry_at, entry_answer, entry_written}
+use Rattle.ocp_flight.specs.Mirror.Kept.{before_of, released_count, flown_of, IsKept}
 use Rattle.ocp_flight.specs.declared.store.BoundedStore.TheInside.{Inside}
 
 -- ---- the answer about an entry
@@ -74,21 +74,39 @@ some_piece ps i n is =
 
 -- ---- where it is found
 
-module _ {A : Type 0} (s : Inside A) (kept : IsKept s) (index : ℕ) (from : s.released ≤ index) where
-  pub found : slice_get s.tape.pieces (index - s.released) ≡ option_map entry_octets (slice_get (entries_read s.history.pieces) index)
-  found =
-      let at : index ≡ s.released + (index - s.released) = omega (arith, from) in
-      ap (λ ps. slice_get ps (index - s.released)) kept.held
-      ∙ slice_get-drop s.released s.history.pieces (index - s.released) index at
-      ∙ ap (λ ps. slice_get ps index) (sym kept.octets)
-      ∙ slice_get-map entry_octets (entries_read s.history.pieces) index
+module _ {A : Type 0} (s : Inside A) (kept : IsKept s) where
+  -- the index of the oldest entry that is held
+  pub first_is : s.first ≡ first (flown_of s)
+  first_is = omega (arith, kept.since)
 
-  pub told : (size : ℕ) → entry_answer (flown_of s) index size ≡ length_told size (slice_get (entries_read s.history.pieces) index)
-  told size =
-      let apart : nat_lt index s.released ≡ false = grind (arith, nat_tests) in
-      ap (λ b. cond b (Err Released) (length_told size (slice_get (entries_read s.history.pieces) index))) apart
+  abbrev one_at : ℕ → Option Entry
+  one_at index = entry_at (flown_of s) index
 
-  pub written : (before : List ℕ) → entry_written (flown_of s) index before ≡ octets_written before (slice_get (entries_read s.history.pieces) index)
-  written before =
-      let apart : nat_lt index s.released ≡ false = grind (arith, nat_tests) in
-      ap (λ b. cond b before (octets_written before (slice_get (entries_read s.history.pieces) index))) apart
+  module _ (index : ℕ) (from : s.first ≤ index) where
+    pub found : slice_get s.tape.pieces (index - s.first) ≡ option_map entry_octets (one_at index)
+    found =
+        let at : index - before_of s ≡ released_count s + (index - s.first) = omega (arith, from, kept.since) in
+        ap (λ ps. slice_get ps (index - s.first)) kept.held
+        ∙ slice_get-drop (released_count s) s.history.pieces (index - s.first) (index - before_of s) at
+        ∙ ap (λ ps. slice_get ps (index - before_of s)) (sym kept.octets)
+        ∙ slice_get-map entry_octets (flown_of s).entries (index - before_of s)
+
+    held : nat_lt index (first (flown_of s)) ≡ false
+    held = let is = first_is in let apart : nat_lt index s.first ≡ false = grind (arith, nat_tests) in ap (λ n. nat_lt index n) (sym is) ∙ apart
+
+    pub told : (size : ℕ) → entry_answer (flown_of s) index size ≡ length_told size (one_at index)
+    told size = ap (λ b. cond b (Err Released) (length_told size (one_at index))) held
+
+    pub written : (before : List ℕ) → entry_written (flown_of s) index before ≡ octets_written before (one_at index)
+    written before = ap (λ b. cond b before (octets_written before (one_at index))) held
+
+  -- it was released
+  module _ (index : ℕ) (gone : index < s.first) where
+    lost : nat_lt index (first (flown_of s)) ≡ true
+    lost = let is = first_is in let within : nat_lt index s.first ≡ true = grind (arith, nat_tests) in ap (λ n. nat_lt index n) (sym is) ∙ within
+
+    pub lost_told : (size : ℕ) → entry_answer (flown_of s) index size ≡ Err Released
+    lost_told size = ap (λ b. cond b (Err Released) (length_told size (one_at index))) lost
+
+    pub lost_written : (before : List ℕ) → entry_written (flown_of s) index before ≡ before
+    lost_written before = ap (λ b. cond b before (octets_written before (one_at index))) lost

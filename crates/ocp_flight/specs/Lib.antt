@@ -1,6 +1,7 @@
 pub mod Pieces
 pub mod Entries
 pub mod Flown
+pub mod Bounded
 pub mod Calls
 pub mod Laws
 pub mod Clauses

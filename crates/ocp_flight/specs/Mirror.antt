@@ -1,3 +1,5 @@
+pub mod Restoration
 pub mod Codes
+pub mod Replays
 pub mod Kept
 pub mod Cut

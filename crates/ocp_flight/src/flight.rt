@@ -3,7 +3,7 @@
 ghost use Rattle.std.specs.Prelude.{◌≡◌, ◌↔◌, ◌≤◌, ◌<◌, ◌+◌, ◌^◌, ℕ, None, Err, IfOk, IfSome, OnOk, OnErr, length, slice_get, option_copied};
 ghost use Rattle.ocp_world.specs.World as world;
 ghost use Rattle.ocp_world.specs.Mirror.State.{IsWorld};
-ghost use Rattle.ocp_flight.specs.Clauses.{Answers, Commanded, Debug, Flown, IsNextRunning, MAX_APID, MAX_CAPACITY, MAX_POOL_WORDS, Put, Reads, Runs, Step, Stepped, Written, answer_in, entry_answer, entry_written, expand, flown_after, get, last_traces, opened_flown, release_after, release_answer, room, round_after, round_in, slice_after, slice_in, view_at, with_packets, world_of};
+ghost use Rattle.ocp_flight.specs.Clauses.{Answers, Commanded, Debug, Flown, IsBounded, IsNextRunning, MAX_APID, MAX_CAPACITY, MAX_POOL_WORDS, Put, Reads, Runs, Step, Stepped, Written, answer_in, entry_answer, entry_written, expand, first, flown_after, get, last_traces, opened_flown, release_after, release_answer, room, round_after, round_in, slice_after, slice_in, view_at, with_packets, world_of};
 ghost use Rattle.ocp_flight.specs.Mirror.Codes.{flown_code};
 
 use crate::{BoundedStore, EntryFault, MAX_OCTETS, ReleaseFault, Room};
@@ -17,8 +17,8 @@ use space_packet::Apid;
 use std::alloc::{AllocError, Allocator, Global};
 use std::marker::Model;
 
-/// The engine, seen as the log of all entries since it was opened. Its state is the replay of all
-/// of them, those that were released included.
+/// The engine, seen as the world that it began in and all entries since then. Its state is the
+/// replay of all of them, those that were released included.
 pub struct Flight<A: Allocator = Global> {
     store: BoundedStore<A>,
     state: State<A>,
@@ -38,7 +38,7 @@ impl<A: Allocator> Model for Flight<A> {
 
     ghost view = { λ e. e.store };
 
-    ghost invariant = { λ e. IsWorld (world_of e.store.log) e.state };
+    ghost invariant = { λ e. IsWorld (world_of e.store) e.state };
 }
 
 impl<A: Allocator + Copy> Flight<A> {
@@ -180,8 +180,8 @@ impl<A: Allocator> Flight<A> {
     }
 
     /// Writes the octets of an entry to the front of a buffer, and answers how many they are. The
-    /// index counts from the first entry since the engine was opened. Refused, in this order, if
-    /// the entry was released, if there is none yet, and if the buffer is too short.
+    /// index counts from the first entry of all. Refused, in this order, if the entry was released,
+    /// if there is none yet, and if the buffer is too short.
     pub fn entry(&self, index: u64, buffer: &mut [u8]) -> Result<usize, EntryFault>
         ensures answer { result ≡ entry_answer self.now index (length buffer.old) }
         ensures octets { buffer.new ≡ entry_written self.now index buffer.old }
@@ -189,10 +189,17 @@ impl<A: Allocator> Flight<A> {
         self.store.entry(index, buffer)
     }
 
-    /// The index of the oldest entry that is held, counted from the first since the engine was
-    /// opened. If none is held, the next entry will have this index.
+    /// The world that the engine began in bounds its reports. It does nothing when it runs.
+    pub fn bounds(&self)
+        ensures { IsBounded self.now.base }
+    {
+        self.store.bounds();
+    }
+
+    /// The index of the oldest entry that is held, counted from the first of all. If none is held,
+    /// the next entry will have this index.
     pub fn first(&self) -> u64
-        ensures { result ≡ self.now.released }
+        ensures { result ≡ first self.now }
     {
         self.store.first()
     }
@@ -207,8 +214,8 @@ impl<A: Allocator> Flight<A> {
     /// How many events were accepted: each instruction is one, and so is each request, debugger's
     /// command, drain and write of a pool word. It is the number of the next event.
     pub fn events(&self) -> u64
-        ensures value { result ≡ length (expand self.now.log.entries) }
-        ensures number { result ≡ (world_of self.now.log).events }
+        ensures value { result ≡ self.now.base.events + length (expand self.now.entries) }
+        ensures number { result ≡ (world_of self.now).events }
         ensures bound { result ≤ 2 ^ 63 + 2 ^ 52 }
     {
         self.store.count()
@@ -217,24 +224,24 @@ impl<A: Allocator> Flight<A> {
     /// The procedure whose turn is next: the least running one above the one before, or the least
     /// running one if none is above it. None exactly if none runs.
     pub fn next_running(&self, after: Option<u16>) -> Option<u16>
-        ensures pick { IsNextRunning (world_of self.now.log).records after result }
-        ensures runs { IfSome result (Runs (world_of self.now.log).records) }
+        ensures pick { IsNextRunning (world_of self.now).records after result }
+        ensures runs { IfSome result (Runs (world_of self.now).records) }
         ensures none { result ≡ None ↔
-            ((id : ℕ) → Runs (world_of self.now.log).records id → ⊥) }
+            ((id : ℕ) → Runs (world_of self.now).records id → ⊥) }
     {
         self.state.next_running(after)
     }
 
     /// What is shown of a procedure, if it is loaded.
     pub fn view(&self, id: u16) -> Option<View>
-        ensures { result ≡ view_at (get (world_of self.now.log).records id) }
+        ensures { result ≡ view_at (get (world_of self.now).records id) }
     {
         self.state.table.view(id)
     }
 
     /// The pool word at an index, if there is one.
     pub fn pool_word(&self, index: u64) -> Option<u64>
-        ensures { result ≡ slice_get (world_of self.now.log).pool index }
+        ensures { result ≡ slice_get (world_of self.now).pool index }
     {
         self.state.pool.get(index)
     }
@@ -243,7 +250,7 @@ impl<A: Allocator> Flight<A> {
     /// order, if the procedure is not loaded, and if one of the octets is not in its memory; the
     /// slice then keeps its octets.
     pub fn memory(&self, id: u16, address: u64, octets: &mut [u8]) -> Result<(), DebugFault>
-        ensures { Reads (get (world_of self.now.log).records id) address octets.old octets.new
+        ensures { Reads (get (world_of self.now).records id) address octets.old octets.new
             result }
     {
         ocp_debug::memory(&self.state.table, id, address, octets)
@@ -252,7 +259,7 @@ impl<A: Allocator> Flight<A> {
     /// A trace record that is kept, by its index from the oldest. The last 256 are kept.
     pub fn trace_record(&self, index: u64) -> Option<&Trace>
         ensures { option_copied result ≡
-            slice_get (last_traces (world_of self.now.log).traces) index }
+            slice_get (last_traces (world_of self.now).traces) index }
     {
         self.state.ring.record(index)
     }

@@ -2,8 +2,9 @@
 
 ghost use Rattle.std.specs.Prelude.{◌≡◌, ◌≤◌, ◌+◌, ◌^◌, ◌++◌, IfOk, length};
 ghost use Rattle.ocp_core.specs.Log as logs;
-ghost use Rattle.ocp_core.specs.Clauses.{MAX_APID, MAX_CAPACITY, expand, world_of};
-ghost use Rattle.ocp_flight.specs.Flown.{entry_answer, entry_written, held_count, opened_flown, release_after, release_answer, room, with_entry};
+ghost use Rattle.ocp_core.specs.Clauses.{MAX_APID, MAX_CAPACITY, expand};
+ghost use Rattle.ocp_flight.specs.Bounded.{IsBounded};
+ghost use Rattle.ocp_flight.specs.Flown.{entry_answer, entry_written, first, held_count, opened_flown, release_after, release_answer, room, with_entry, world_of};
 ghost use Rattle.ocp_flight.specs.Mirror.Kept.{MayEnter};
 
 use crate::history::History;
@@ -32,7 +33,7 @@ pub struct Room {
 
 /// A bounded store of entries, like a packet store of ECSS-E-ST-70-41C service 15: it holds the
 /// last ones as octets, and drops the oldest when it is told to. All room is reserved when it is
-/// made. Contracts see the log of all entries.
+/// made. Contracts see all entries, and the world that the engine began in.
 #[derive(Drop)]
 pub struct BoundedStore<A: Allocator = Global> {
     profile: Profile,
@@ -40,9 +41,9 @@ pub struct BoundedStore<A: Allocator = Global> {
     words: u16,
     tape: Tape<A>,
     history: History,
-    // How many entries were released.
-    released: u64,
-    // How many single events all entries are.
+    // The index of the oldest entry that is held.
+    first: u64,
+    // How many events were accepted.
     events: u64,
 }
 
@@ -82,7 +83,7 @@ impl<A: Allocator> BoundedStore<A> {
             words,
             tape: Tape::new(alloc, entries, octets)?,
             history: History::new(),
-            released: 0,
+            first: 0,
             events: 0,
         })
     }
@@ -94,12 +95,19 @@ impl<A: Allocator> BoundedStore<A> {
         self.tape.len() as u64
     }
 
-    /// The index of the oldest entry that is held, counted from the first since the engine was
-    /// opened. If none is held, the next entry will have this index.
-    pub fn first(&self) -> u64
-        ensures { result ≡ self.now.released }
+    /// The world that the engine began in bounds its reports. It does nothing when it runs.
+    pub fn bounds(&self)
+        ensures { IsBounded self.now.base }
     {
-        self.released
+        let _first = self.first;
+    }
+
+    /// The index of the oldest entry that is held, counted from the first of all. If none is held,
+    /// the next entry will have this index.
+    pub fn first(&self) -> u64
+        ensures { result ≡ first self.now }
+    {
+        self.first
     }
 
     /// How many entries more, and how many octets more, may be held.
@@ -112,26 +120,27 @@ impl<A: Allocator> BoundedStore<A> {
         }
     }
 
-    /// How many single events all entries are.
+    /// How many events were accepted: those of the world that the engine began in, and the single
+    /// events of all entries since then.
     pub fn count(&self) -> u64
-        ensures value { result ≡ length (expand self.now.log.entries) }
-        ensures number { result ≡ (world_of self.now.log).events }
+        ensures value { result ≡ self.now.base.events + length (expand self.now.entries) }
+        ensures number { result ≡ (world_of self.now).events }
         ensures bound { result ≤ 2 ^ 63 + 2 ^ 52 }
     {
         self.events
     }
 
     /// Writes the octets of an entry to the front of a buffer, and answers how many they are. The
-    /// index counts from the first entry since the engine was opened. Refused, in this order, if
-    /// the entry was released, if there is none yet, and if the buffer is too short.
+    /// index counts from the first entry of all. Refused, in this order, if the entry was released,
+    /// if there is none yet, and if the buffer is too short.
     pub fn entry(&self, index: u64, buffer: &mut [u8]) -> Result<usize, EntryFault>
         ensures answer { result ≡ entry_answer self.now index (length buffer.old) }
         ensures octets { buffer.new ≡ entry_written self.now index buffer.old }
     {
-        if index < self.released {
+        if index < self.first {
             return Err(EntryFault::Released);
         }
-        let place = (index - self.released) as usize;
+        let place = (index - self.first) as usize;
         let Some(length) = self.tape.length_at(place) else {
             return Err(EntryFault::NotYet);
         };
@@ -166,7 +175,7 @@ impl<A: Allocator> BoundedStore<A> {
             return Err(ReleaseFault::Spent);
         }
         self.tape.release(count as usize);
-        self.released += count;
+        self.first += count;
         Ok(())
     }
 }
@@ -174,14 +183,15 @@ impl<A: Allocator> BoundedStore<A> {
 impl<A: Allocator> Store for BoundedStore<A> {
     ghost use Rattle.std.specs.Prelude.{refl};
     ghost use Rattle.ocp_flight.specs.Flown as flown;
+    ghost use Rattle.ocp_flight.specs.Mirror.Replays.{world_of-with_entry};
 
-    ghost log = { λ f. f.log };
+    ghost world = { flown.world_of };
 
     ghost is_full = { flown.is_full };
 
     ghost with_entry = { flown.with_entry };
 
-    ghost logs_entry = { λ f e. refl };
+    ghost replays_entry = { world_of-with_entry };
 
     ghost fills_alike = { λ f by id count other. refl };
 

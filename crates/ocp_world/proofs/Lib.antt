@@ -12,3 +12,4 @@ pub mod Loading
 pub mod Putting
 pub mod NextRunning
 pub mod Counting
+pub mod Alike

@@ -15,3 +15,4 @@ pub mod Laws
 pub mod Names
 pub mod Mirror
 pub mod Clauses
+pub mod Alike

@@ -1,6 +1,7 @@
 //! Laws on worlds and events. The functions do nothing when they run: their contracts are the laws.
 ghost use Rattle.std.specs.Prelude.{◌≡◌, ◌≢◌, ◌+◌, ◌<◌, ℕ, false, nat_lt, length, slice_set, List, [], Err, if◌then◌else◌};
 ghost use Rattle.ocp_world.specs.Clauses.{Command as Asked, Commanded, Debug, Drain, Event, IsAppended, IsKeptOrStarted, JournalFull, Put, Request, Requested, Step, Stepped, World, Written, after, get, is_accepted, is_running, machine_of, may_change_machine, next_outcome, replay_from, run_of};
+ghost use Rattle.ocp_world.specs.Alike.{AlikeWorldsStayAlike, ResumedWorldsAreAlike};
 ghost use Rattle.ocp_debug.specs.declared.command.DebugFault.TheVariants as debug;
 ghost use Rattle.ocp_table.specs.declared.answers.StepOutcome.TheVariants as outcome;
 ghost use Rattle.ocp_world.specs.declared.answers.PutFault.TheVariants as put;
@@ -137,4 +138,11 @@ pub fn worlds_have_no_full_journal()
     ensures command { (w : World) (e : Event) →
         (after w e).answer ≢ Commanded (Err debug.JournalFull) }
     ensures put { (w : World) (e : Event) → (after w e).answer ≢ Written (Err put.JournalFull) }
+{}
+
+/// Worlds that differ in trace records and in whole rounds of the sequence counts, as a world and
+/// what a checkpoint keeps of it, give the same answers to all later events.
+pub fn resumed_worlds_answer_alike()
+    ensures alike { AlikeWorldsStayAlike }
+    ensures resumed { ResumedWorldsAreAlike }
 {}

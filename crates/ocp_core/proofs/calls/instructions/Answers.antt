@@ -5,7 +5,6 @@ use Rattle.ocp_world.specs.World.{World}
 use Rattle.ocp_world.specs.After.{Stepped}
 use Rattle.ocp_world.specs.Round.{most_events}
 use Rattle.ocp_world.specs.Mirror.State.{IsWorld}
-use Rattle.ocp_core.specs.Log.{world_of}
 use Rattle.ocp_core.specs.Marks.{last_outcome}
 use Rattle.ocp_core.proofs.Marking.{slice_mark}
 use Rattle.ocp_core.proofs.Counting.{counted_steps}
@@ -17,7 +16,7 @@ use Rattle.ocp_core.proofs.calls.instructions.Goals as goal
 
 pub returns-in-Ok-clause-slice : goal.returns-in-Ok-clause-slice
 returns-in-Ok-clause-slice g c =
-    let w : World = world_of (g.S.Store.log c.args.store.now) in
+    let w : World = g.S.Store.world c.args.store.now in
     let most : ℕ = most_events c.args.extent w c.args.by c.args.id c.args.budget in
     let taken = runs_so w c.args.state.now c.args.by c.args.id c.requires.stands c.running.result c.running.ensures.effect _ c.in-Ok.is in
     full_slice_at _ w c.args.by c.args.id most taken (sym c.is_full.ensures ∙ c.if-is_full.true)
@@ -27,14 +26,14 @@ returns-in-Ok-clause-round g c is = rounded _ c.args.extent _ c.args.by c.args.i
 
 pub returns-in-Ok-clause-store : goal.returns-in-Ok-clause-store
 returns-in-Ok-clause-store g c =
-    let w : World = world_of (g.S.Store.log c.args.store.now) in
+    let w : World = g.S.Store.world c.args.store.now in
     let most : ℕ = most_events c.args.extent w c.args.by c.args.id c.args.budget in
     let taken = runs_so w c.args.state.now c.args.by c.args.id c.requires.stands c.running.result c.running.ensures.effect _ c.in-Ok.is in
-    full_slice_store g.S.Store.log g.S.Store.is_full g.S.Store.with_entry c.args.store.now c.args.by c.args.id most taken (sym c.is_full.ensures ∙ c.if-is_full.true)
+    full_slice_store g.S.Store.world g.S.Store.is_full g.S.Store.with_entry c.args.store.now c.args.by c.args.id most taken (sym c.is_full.ensures ∙ c.if-is_full.true)
 
 pub returns-in-Err-clause-slice : goal.returns-in-Err-clause-slice
 returns-in-Err-clause-slice g c =
-    let w : World = world_of (g.S.Store.log c.args.store.now) in
+    let w : World = g.S.Store.world c.args.store.now in
     let most : ℕ = most_events c.args.extent w c.args.by c.args.id c.args.budget in
     let refused = refuses_so w c.args.state.now c.args.by c.args.id c.requires.stands c.running.result c.running.ensures.effect c.in-Err.refusal c.in-Err.is in
     refused_slice_at _ w c.args.by c.args.id most c.in-Err.refusal refused.0 refused.1
@@ -44,14 +43,14 @@ returns-in-Err-clause-round g c is = rounded _ c.args.extent _ c.args.by c.args.
 
 pub returns-in-Err-clause-store : goal.returns-in-Err-clause-store
 returns-in-Err-clause-store g c =
-    let w : World = world_of (g.S.Store.log c.args.store.now) in
+    let w : World = g.S.Store.world c.args.store.now in
     let most : ℕ = most_events c.args.extent w c.args.by c.args.id c.args.budget in
     let refused = refuses_so w c.args.state.now c.args.by c.args.id c.requires.stands c.running.result c.running.ensures.effect c.in-Err.refusal c.in-Err.is in
-    refused_slice_store g.S.Store.log g.S.Store.is_full g.S.Store.with_entry c.args.store.now c.args.by c.args.id most refused.0
+    refused_slice_store g.S.Store.world g.S.Store.is_full g.S.Store.with_entry c.args.store.now c.args.by c.args.id most refused.0
 
 pub returns-in-NotLoaded-clause-slice : goal.returns-in-NotLoaded-clause-slice
 returns-in-NotLoaded-clause-slice g c =
-    let w : World = world_of (g.S.Store.log c.args.store.now) in
+    let w : World = g.S.Store.world c.args.store.now in
     let most : ℕ = most_events c.args.extent w c.args.by c.args.id c.args.budget in
     let some = most_some c.args.extent w c.args.by c.args.id c.args.budget c.requires.some in
     let refused = is_refused w c.args.by c.args.id c.instructions-round.result.last (c.instructions-round.ensures.done w c.args.by c.requires.stands) c.in-NotLoaded.is in
@@ -62,14 +61,14 @@ returns-in-NotLoaded-clause-round g c is = rounded _ c.args.extent _ c.args.by c
 
 pub returns-in-NotLoaded-clause-store : goal.returns-in-NotLoaded-clause-store
 returns-in-NotLoaded-clause-store g c =
-    let w : World = world_of (g.S.Store.log c.args.store.now) in
+    let w : World = g.S.Store.world c.args.store.now in
     let most : ℕ = most_events c.args.extent w c.args.by c.args.id c.args.budget in
     let refused = is_refused w c.args.by c.args.id c.instructions-round.result.last (c.instructions-round.ensures.done w c.args.by c.requires.stands) c.in-NotLoaded.is in
-    refused_slice_store g.S.Store.log g.S.Store.is_full g.S.Store.with_entry c.args.store.now c.args.by c.args.id most refused
+    refused_slice_store g.S.Store.world g.S.Store.is_full g.S.Store.with_entry c.args.store.now c.args.by c.args.id most refused
 
 pub returns-in-NotLoaded-clause-world : goal.returns-in-NotLoaded-clause-world
 returns-in-NotLoaded-clause-world g c =
-    let w : World = world_of (g.S.Store.log c.args.store.now) in
+    let w : World = g.S.Store.world c.args.store.now in
     let most : ℕ = most_events c.args.extent w c.args.by c.args.id c.args.budget in
     let some = most_some c.args.extent w c.args.by c.args.id c.args.budget c.requires.some in
     let refused = is_refused w c.args.by c.args.id c.instructions-round.result.last (c.instructions-round.ensures.done w c.args.by c.requires.stands) c.in-NotLoaded.is in
@@ -77,13 +76,13 @@ returns-in-NotLoaded-clause-world g c =
 
 pub push_steps-requires-clause-some : goal.push_steps-requires-clause-some
 push_steps-requires-clause-some g c =
-    let w : World = world_of (g.S.Store.log c.args.store.now) in
+    let w : World = g.S.Store.world c.args.store.now in
     let most : ℕ = most_events c.args.extent w c.args.by c.args.id c.args.budget in
     omega (arith, c.instructions-round.ensures.count w c.args.by c.requires.stands, slice_count_some w c.args.by c.args.id most (most_some c.args.extent w c.args.by c.args.id c.args.budget c.requires.some))
 
 pub push_steps-requires-clause-may : goal.push_steps-requires-clause-may
 push_steps-requires-clause-may g c =
-    let w : World = world_of (g.S.Store.log c.args.store.now) in
+    let w : World = g.S.Store.world c.args.store.now in
     let most : ℕ = most_events c.args.extent w c.args.by c.args.id c.args.budget in
     let some = most_some c.args.extent w c.args.by c.args.id c.args.budget c.requires.some in
     let last = c.instructions-round.ensures.last w c.args.by c.requires.stands in
@@ -97,7 +96,7 @@ push_steps-requires-clause-may g c =
 
 pub returns-clause-slice : goal.returns-clause-slice
 returns-clause-slice g c =
-    let w : World = world_of (g.S.Store.log c.args.store.now) in
+    let w : World = g.S.Store.world c.args.store.now in
     let most : ℕ = most_events c.args.extent w c.args.by c.args.id c.args.budget in
     let some = most_some c.args.extent w c.args.by c.args.id c.args.budget c.requires.some in
     let last = c.instructions-round.ensures.last w c.args.by c.requires.stands in
@@ -109,18 +108,18 @@ returns-clause-round g c is = rounded _ c.args.extent _ c.args.by c.args.id c.ar
 
 pub returns-clause-store : goal.returns-clause-store
 returns-clause-store g c =
-    let w : World = world_of (g.S.Store.log c.args.store.now) in
+    let w : World = g.S.Store.world c.args.store.now in
     let most : ℕ = most_events c.args.extent w c.args.by c.args.id c.args.budget in
     let some = most_some c.args.extent w c.args.by c.args.id c.args.budget c.requires.some in
     let last = c.instructions-round.ensures.last w c.args.by c.requires.stands in
     let taken = is_taken w c.args.by c.args.id c.instructions-round.result.last most some last (is_done_of w c.args.by c.args.id c.instructions-round.result.last c.in_default.not-NotLoaded c.in_default.not-NotRunning c.in_default.not-JournalFull) in
-    done_slice_store g.S.Store.log g.S.Store.is_full g.S.Store.with_entry c.args.store.now c.args.by c.args.id most _ c.instructions-round.result.count taken (sym c.is_full.ensures ∙ c.if-is_full.false) (c.instructions-round.ensures.count w c.args.by c.requires.stands) c.push_steps.ensures
+    done_slice_store g.S.Store.world g.S.Store.is_full g.S.Store.with_entry c.args.store.now c.args.by c.args.id most _ c.instructions-round.result.count taken (sym c.is_full.ensures ∙ c.if-is_full.false) (c.instructions-round.ensures.count w c.args.by c.requires.stands) c.push_steps.ensures
 
 pub returns-clause-world : goal.returns-clause-world
-returns-clause-world g c = IsWorld-pushed g.S.Store.log g.S.Store.with_entry g.met.S.Store.logs_entry c.args.store.now _ _ _ c.push_steps.ensures (c.instructions-round.ensures.world _ c.args.by c.requires.stands)
+returns-clause-world g c = IsWorld-pushed g.S.Store.world g.S.Store.with_entry g.met.S.Store.replays_entry c.args.store.now _ _ _ c.push_steps.ensures (c.instructions-round.ensures.world _ c.args.by c.requires.stands)
 
 pub returns-clause-within : goal.returns-clause-within
 returns-clause-within g c =
-    let w : World = world_of (g.S.Store.log c.args.store.now) in
+    let w : World = g.S.Store.world c.args.store.now in
     let most : ℕ = most_events c.args.extent w c.args.by c.args.id c.args.budget in
     omega (arith, c.instructions-round.ensures.count w c.args.by c.requires.stands, slice_count_within w c.args.by c.args.id most, most_few c.args.extent w c.args.by c.args.id c.args.budget)

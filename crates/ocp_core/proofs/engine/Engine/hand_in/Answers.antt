@@ -1,6 +1,7 @@
-use Rattle.std.proofs.Common.{◌≡◌, false, refl, sym, ap, subst, ◌∙◌}
+use Rattle.std.proofs.Common.{◌≡◌, Some, false, refl, sym, ap, subst, ◌∙◌}
+use Rattle.std.specs.FinMap.{get}
 use Rattle.bpf_step.specs.Step.{StandsIn}
-use Rattle.ocp_table.specs.Snapshots.{snapshot_at}
+use Rattle.ocp_table.specs.Snapshots.{snapshot_at, StandsAt}
 use Rattle.ocp_world.specs.After.{Stepped}
 use Rattle.ocp_world.specs.Settled.{world_after_work}
 use Rattle.ocp_world.specs.Mirror.State.{IsWorld}
@@ -8,7 +9,7 @@ use Rattle.ocp_core.specs.Log.{Log, is_full, world_of}
 use Rattle.ocp_core.specs.Tickets.{WorkContents, IsRun}
 use Rattle.ocp_core.specs.Commits.{IsFresh, IsCommitted, work_after}
 use Rattle.ocp_core.specs.declared.answers.CommitOutcome.TheVariants.{Committed}
-use Rattle.ocp_core.proofs.Committing.{fresh_at, given_back, run_none, IsWorld-committed, world_committed, counted_commit}
+use Rattle.ocp_core.proofs.Committing.{fresh_at, may_settle, given_back, run_none, IsWorld-committed, world_committed, counted_commit}
 use Rattle.ocp_core.proofs.Growing.{grows_none, grows_commit}
 use Rattle.ocp_core.proofs.Marking.{commit_mark}
 use Rattle.ocp_core.proofs.engine.Engine.hand_in.Goals as goal
@@ -27,6 +28,15 @@ invariant_of-work g c =
     let stands = subst (λ p. StandsIn p.base.image p.base.machine) c.deref.ensures (c.is_at.ensures.stands c.if-not-is_at.false) in
     let run = run_none work.id work.base c.settle.new.machine stands (given_back c.self.inside.journal work _ c.settle.new.machine fresh (c.settle.ensures.machine _ c.self.invariant)) in
     subst (λ p. IsRun (record { id = work.id; base = p.base; end = c.settle.new.machine; count = 0 })) (sym c.deref_mut.ensures.value) run
+
+-- the machine that ran stands in the procedure's image, and has the addresses of its own
+pub settle-requires : goal.settle-requires
+settle-requires g c =
+    let work : WorkContents = record { id = c.work.inside.id; base = c.work.inside.parts.value.base; end = c.work.inside.parts.value.machine; count = c.work.inside.count } in
+    let records = c.self.inside.state.table.records in
+    let same = subst (λ p. snapshot_at (get records work.id) ≡ Some p.base) c.deref.ensures (ap snapshot_at c.in-Some.ensures.some ∙ c.is_at.ensures.same.0 c.if-not-is_at.false) in
+    let may = may_settle c.runs_keep_the_addresses.ensures (get records work.id) work same c.work.invariant in
+    record { stands = subst (λ p. StandsAt (get records work.id) p.machine) (sym c.deref_mut.ensures.value) may }
 
 pub returns-clause-commits : goal.returns-clause-commits
 returns-clause-commits g c =
