@@ -7,6 +7,8 @@ TRACE = module_of(ROOT / "tools/trace")
 PROFILE, ASSURANCE, PAGE = (ROOT / f"docs/{name}.md" for name in ("PROFILE", "ASSURANCE", "TRACE"))
 # The page that has such a part if the profile has none; and what is in the sentence before a table, or in its first line.
 OTHER_PAGES = {"The journal": "docs/EMBED.md", "The program": "docs/MANUAL.md", "The console": "docs/MANUAL.md"}
+# What no engine makes yet, so that no case can show it: the crate that reads and writes it has laws and mutants.
+NOT_YET = {"Checkpoints"}
 OTHER_TABLES = {"The console: options": "Option of", "The console: refusals of the debugger": "Refusals of the debugger",
                 "The console: lines": "Line | Output"}
 
@@ -41,8 +43,8 @@ def has_test(name):
 class Profile(Case):
     def setUp(self):
         tables, parts = tables_of(PROFILE.read_text())
-        self.tables = [table for table in tables if table[0] not in OTHER_PAGES]
-        self.parts = [part for part in parts if part not in OTHER_PAGES]
+        self.tables = [table for table in tables if table[0] not in {*OTHER_PAGES, *NOT_YET}]
+        self.parts = [part for part in parts if part not in {*OTHER_PAGES, *NOT_YET}]
 
     def test_each_table_and_each_part_has_a_row(self):
         taken = []
