@@ -9,7 +9,7 @@ from itertools import product
 
 from support import PROGRAM, ROOT, Case, needs, ocp, run
 
-HELP = ROOT / "tests/help"
+HELP = ROOT / "docs/help"
 COMMANDS = ("asm", "check", "list", "run")
 COMPILER = os.environ.get("CC", "cc")
 MOST = 1_048_576  # octets of an input
@@ -64,9 +64,14 @@ CHECK = (
     ("check", "the last octet of the arguments", f"7113ff0000000000{EXIT}\n", 0, shown(2)),
     ("check", "a store to the arguments", f"7201000000000000{EXIT}\n", 1,
      f"slot 0   stb [r1+0], 0   may be WriteToArguments: r1 is 0x20000000 to 0x20000000\n{NO_BOUND}"),
+    ("check", "a store to the octet after the arguments", f"18010000000100200000000000000000" f"7201000000000000{EXIT}\n", 1,
+     f"slot 2   stb [r1+0], 0   may be AccessOutside: r1 is 0x20000100 to 0x20000100\n{NO_BOUND}"),
     ("check", "a local call", f"8510000001000000{EXIT}{EXIT}\n", 0, shown(3)),
+    ("check", "a function that stores to its stack", f"8510000001000000{EXIT}7a0af8ff00000000b700000000000000{EXIT}\n", 0, shown(5)),
     ("check", "a loop without a step end", "0500ffff00000000\n", 1,
      f"{NEVER}fault 4        never\nround   not bounded: slots 0 repeat without a step end\n"),
+    ("check", "a loop of ten slots without a step end", 9 * "b700000000000000" + "0500f6ff00000000\n", 1,
+     f"{NEVER}fault 4        never\nround   not bounded: slots 0 1 2 3 4 5 6 7 8 9 repeat without a step end\n"),
     ("check", "a loop with a step end", "b70100000100000085000000050000000500fdff00000000\n", 0, shown(3)),
     ("check", "nothing", "", 1, "error 0 Load 1\n"),
     ("check", "an octet that is no digit", "950000000000000x\n", 1, "error 0 Hex\n"),
@@ -81,6 +86,26 @@ CHECK = (
     ("check --profile 2", "the sixth call", CALL_6 + EXIT + "\n", 1,
      f"{NEVER}slot 0   call 6   may be BadPoolIndex: r1 is 0x20000000 to 0x20000000\n{at_most(2)}"),
     ("check", "1,048,577 octets", MOST // 16 * EXIT + " ", 1, "error 0 TooLong\n"),
+)
+# What is known after an instruction: the index of a pool word, in a text without jumps, and how many words it needs. R1 is the
+# address of the arguments, whose octets are any numbers.
+BYTE, ANY = "ldxb r1, [r1+0]\n", "ldxdw r3, [r1+8]\n"
+INDICES = (
+    ("a remainder is no more than the dividend", ANY + BYTE + "mod64 r1, r3\n", 256),
+    ("a remainder is below the divisor", "ldxdw r1, [r1+0]\nmod64 r1, 9\n", 9),
+    ("a conjunction is no more than its first operand", ANY + BYTE + "and64 r1, r3\n", 256),
+    ("an exclusive disjunction is no more than the sum", BYTE + "and64 r1, 15\nxor64 r1, 16\n", 32),
+    ("an arithmetic shift of a number without a sign divides", BYTE + "arsh64 r1, 2\n", 64),
+    ("a difference of 32 bits", "ldxb r3, [r1+0]\nmov64 r1, 255\nsub32 r1, r3\n", 256),
+    ("a product of 32 bits", BYTE + "and64 r1, 15\nmul32 r1, 3\n", 46),
+    ("a shift of 32 bits to the left", BYTE + "and64 r1, 15\nlsh32 r1, 3\n", 121),
+    ("a shift by 33 of 32 bits is by 1", BYTE + "and64 r1, 15\nlsh32 r1, 33\n", 31),
+    ("an exclusive disjunction of 32 bits", BYTE + "and64 r1, 15\nxor32 r1, 16\n", 32),
+    ("an arithmetic shift of 32 bits", BYTE + "arsh32 r1, 2\n", 64),
+    ("a negated number of 32 bits", "ldxdw r1, [r1+0]\nneg32 r1\nrsh64 r1, 24\n", 256),
+    ("a signed remainder of 32 bits", "ldxdw r1, [r1+0]\nsmod32 r1, 7\nrsh64 r1, 24\n", 256),
+    ("sixteen exchanged bits", "ldxdw r1, [r1+0]\nbe r1, 16\nrsh64 r1, 8\n", 256),
+    ("thirty-two exchanged bits", "ldxdw r1, [r1+0]\nbe r1, 32\nrsh64 r1, 24\n", 256),
 )
 RUN = (
     ("", "no words", "journal\n", 0, "journal 0\n"),
@@ -150,6 +175,23 @@ class Commands(Case):
         for words, name, given, status, output in (*ASM, *LIST, *CHECK, *RUN):
             with self.subTest(f"{words}: {name}"):
                 self.ends(ocp(words.split(), given), status, output)
+
+    def test_indices(self):
+        for name, text, words in INDICES:
+            with self.subTest(name):
+                image = ocp(["asm"], f"{text}call 1\nexit\n").stdout
+                self.ends(ocp(["check", "--pool", "256"], image), 0, shown(text.count("\n") + 2, words))
+
+    def test_a_counter_in_steps_of_four(self):
+        """It is 0, 4, .. 60 in the loop, which ends where it is 64: a pool of 64 words is enough, and there is a bound."""
+        text = "mov64 r6, 0\nloop: mov64 r1, r6\ncall 1\nadd64 r6, 4\njne64 r6, 64, loop\nexit\n"
+        done = ocp(["check", "--pool", "64"], ocp(["asm"], text).stdout)
+        self.assertEqual(done.returncode, 0, done.stdout)
+
+    def test_a_test_bounds_a_word_of_the_stack(self):
+        """The register is stored, tested, and lost; the word is loaded."""
+        text = "ldxdw r3, [r1+0]\nstxdw [r10-8], r3\njge64 r3, 10, +2\nldxdw r1, [r10-8]\ncall 1\nexit\n"
+        self.ends(ocp(["check"], ocp(["asm"], text).stdout), 0, shown(6, 10))
 
     def test_a_search_of_too_few_passes(self):
         """70 loads from the stack, each before a jump back to the load before it: the search reaches slot 12 in the last of its

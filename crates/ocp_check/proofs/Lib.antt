@@ -6,6 +6,7 @@ pub mod Quotients
 pub mod Opening
 pub mod Sound
 pub mod Words
+pub mod Widths
 pub mod Falls
 pub mod Forms
 pub mod Counted

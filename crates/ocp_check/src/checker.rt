@@ -36,7 +36,7 @@ pub(crate) fn at_start() -> Node
         forms: [None; REGISTERS],
         words: [None; WORDS],
         kept: 0,
-        spared: 0,
+        spared: u64::MAX,
         depth: 0,
         promise: None,
     }

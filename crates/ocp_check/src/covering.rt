@@ -11,7 +11,7 @@ ghost use Rattle.ocp_check.specs.Mirror.Fits.{Certificate, Covers, Fits, Matches
 use crate::certificate::{Node, Row};
 use crate::form::{BASES, Form, Forms, form_of_known, form_of_sum, is_shifted, range_by_tie};
 use crate::range::{Range, is_within, only};
-use crate::word::{WORDS, Words, free_base, is_word_shifted};
+use crate::word::{WORDS, Words, free_base, is_word_shifted, words_with_known};
 use bpf_moves::REGISTERS;
 use bpf_types::{Line, Operand, Reg};
 use ocp_loader::Program;
@@ -176,13 +176,14 @@ fn row_with_known(row: &Row, forms: &Forms, register: Reg, known: Option<Range>)
     changed
 }
 
-/// A node with more known of a register, and of those that are tied to it.
+/// A node with more known of a register, and of the registers and words that are tied to it.
 pub(crate) fn with_known(node: &Node, register: Reg, known: Option<Range>) -> Node
     ensures { (certificate : Certificate) (s : State) → Matches certificate node.now s →
         IsIn known (slice_index s.registers register) → Matches certificate result s }
 {
     Node {
         row: row_with_known(&node.row, &node.forms, register, known),
+        words: words_with_known(&node.words, form_of(&node.forms, register), known),
         ..*node
     }
 }

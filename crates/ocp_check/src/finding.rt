@@ -10,7 +10,7 @@ use crate::certificate::{Node, after_return};
 use crate::checker::{at_start, is_kept_at};
 use crate::covering::{node_and_line, with_known};
 use crate::form::Form;
-use crate::range::{Range, WORK_OCTETS, is_empty, lesser, only, stride_of, sum};
+use crate::range::{Range, WORK_OCTETS, is_empty, lesser, only, stride_of, sum, top_of};
 use crate::steps::{after_line, at_call, range_by_test, target};
 use crate::tying::{CELLS, cells_of, narrow_by_forms, ties_of};
 use crate::word::{WORDS, Word};
@@ -134,10 +134,17 @@ fn widening(landmarks: &[u64], old: Option<Range>, new: Option<Range>) -> Option
     } else {
         landmark_above(landmarks, new.high)?
     };
-    Some(Range {
+    let wide = Range {
         low,
         high,
         stride: new.stride,
+    };
+    if high < low {
+        return Some(wide);
+    }
+    Some(Range {
+        high: top_of(wide),
+        ..wide
     })
 }
 

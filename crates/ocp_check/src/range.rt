@@ -1,9 +1,11 @@
 //! What is known of a register: a range of numbers, or nothing.
-ghost use Rattle.std.specs.Prelude.{◌*◌, ◌≡◌, ◌≢◌, ◌≤◌, ◌<◌, ◌+◌, ◌-◌, ◌/◌, ◌%◌, ◌^◌, ◌==◌, if◌then◌else◌, bit_and, bit_or, ℕ, IsTrue, IfSome, Some};
+ghost use Rattle.std.specs.Prelude.{◌*◌, ◌≡◌, ◌≢◌, ◌≤◌, ◌<◌, ◌+◌, ◌-◌, ◌/◌, ◌%◌, ◌^◌, ◌==◌, if◌then◌else◌, bit_and, bit_or, bit_xor, ℕ, IsTrue, IfSome, Some};
 ghost use Rattle.std.specs.Int.{w64, cast_unsigned};
 ghost use Rattle.bpf_types.specs.declared.line.Width.{Width};
+ghost use Rattle.bpf_types.specs.declared.line.Width.TheVariants.{W32};
+ghost use Rattle.bpf_types.specs.declared.line.Operation.TheVariants.{Arsh};
 ghost use Rattle.ocp_check.specs.declared.range.Stride.TheVariants.{One};
-ghost use Rattle.bpf_values.specs.Value.{arithmetic_result, is_taken, modulus, passes};
+ghost use Rattle.bpf_values.specs.Value.{arithmetic_result, is_taken, operate, modulus, passes};
 ghost use Rattle.ocp_check.specs.Mirror.Ranges.{IsIn, IsMultiple, IsThere, half_of, just, test_without_signs};
 
 use bpf_types::{Comparison, Operation, Width};
@@ -93,7 +95,7 @@ pub(crate) fn follows(a: Stride, b: Stride) -> bool
 }
 
 /// The greatest number of a range.
-fn top_of(range: Range) -> u64
+pub(crate) fn top_of(range: Range) -> u64
     ensures { (v : ℕ) → IsIn (Some range) v → v ≤ result }
 {
     match range.stride {
@@ -154,7 +156,7 @@ pub(crate) fn is_within(inner: Option<Range>, outer: Option<Range>) -> bool
         (Some(inner), Some(outer)) => {
             inner.high < inner.low
                 || (outer.low <= inner.low
-                    && inner.high <= outer.high
+                    && top_of(inner) <= outer.high
                     && follows(stride_of(inner), outer.stride))
         }
     }
@@ -206,10 +208,11 @@ fn power_of(b: Option<Range>, bits: u64) -> Option<u64>
 }
 
 /// What is known of a shift to the left by a known number.
-fn shift_left(a: Option<Range>, b: Option<Range>) -> Option<Range>
-    ensures { (x y : ℕ) → IsIn a x → IsIn b y → IsIn result ((x * 2 ^ (y % 64)) % 2 ^ 64) }
+fn shift_left(a: Option<Range>, b: Option<Range>, bits: u64) -> Option<Range>
+    requires { (0 < bits) × (bits ≤ 64) }
+    ensures { (x y : ℕ) → IsIn a x → IsIn b y → IsIn result ((x * 2 ^ (y % bits)) % 2 ^ 64) }
 {
-    let power = power_of(b, 64)?;
+    let power = power_of(b, bits)?;
     product(a, only(power))
 }
 
@@ -233,21 +236,73 @@ fn quotient(a: Option<Range>, divisor: Option<u64>) -> Option<Range>
     }
 }
 
-/// What is known of a remainder: it is less than a divisor, if that is not zero.
-fn remainder(b: Option<Range>) -> Option<Range>
-    ensures { (x y : ℕ) → IsIn b y → IsIn result (if y == 0 then x else x % y) }
+/// What is known of a number that is no more than one of which this is known, and no more than a
+/// limit, if there is one.
+fn up_to(a: Option<Range>, limit: Option<u64>) -> Option<Range>
+    ensures { (x v : ℕ) → IsIn a x → v ≤ x → IfSome limit (λ most. v ≤ most) → IsIn result v }
+{
+    match (a, limit) {
+        (Some(a), Some(most)) => between(0, a.high.min(most)),
+        (Some(a), None) => between(0, a.high),
+        (None, Some(most)) => between(0, most),
+        (None, None) => None,
+    }
+}
+
+/// The greatest remainder by a divisor that is not zero.
+fn greatest_remainder(b: Option<Range>) -> Option<u64>
+    ensures { IfSome result (λ most. (x y : ℕ) → IsIn b y →
+        (if y == 0 then x else x % y) ≤ most) }
 {
     match b {
-        Some(b) if b.low > 0 => between(0, b.high.saturating_sub(1)),
+        Some(b) if b.low > 0 => Some(b.high.saturating_sub(1)),
         _ => None,
     }
 }
 
-/// What is known of a conjunction: it is no more than its second operand.
-fn conjunction(b: Option<Range>) -> Option<Range>
-    ensures { (x y : ℕ) → IsIn b y → IsIn result (bit_and x y) }
+/// What is known of a remainder: it is no more than the dividend, and it is less than a divisor
+/// that is not zero.
+fn remainder(a: Option<Range>, b: Option<Range>) -> Option<Range>
+    ensures { (x y : ℕ) → IsIn a x → IsIn b y → IsIn result (if y == 0 then x else x % y) }
 {
-    between(0, b?.high)
+    up_to(a, greatest_remainder(b))
+}
+
+/// The greatest number, if there is a limit.
+fn greatest(a: Option<Range>) -> Option<u64>
+    ensures { IfSome result (λ most. (x : ℕ) → IsIn a x → x ≤ most) }
+{
+    Some(a?.high)
+}
+
+/// What is known of a conjunction: it is no more than either operand.
+fn conjunction(a: Option<Range>, b: Option<Range>) -> Option<Range>
+    ensures { (x y : ℕ) → IsIn a x → IsIn b y → IsIn result (bit_and x y) }
+{
+    up_to(a, greatest(b))
+}
+
+/// What is known of an exclusive disjunction: it is no more than the sum of the operands.
+fn exclusive_disjunction(a: Option<Range>, b: Option<Range>) -> Option<Range>
+    ensures { (x y : ℕ) → IsIn a x → IsIn b y → IsIn result (bit_xor x y) }
+{
+    let (a, b) = (a?, b?);
+    between(0, a.high.checked_add(b.high)?)
+}
+
+/// What is known of an arithmetic shift to the right of numbers of a width: those without a sign
+/// are divided.
+fn arithmetic_shift_right(width: Width, a: Option<Range>, b: Option<Range>) -> Option<Range>
+    ensures { (x y : ℕ) → IsIn a x → IsIn b y →
+        IsIn result (operate width Arsh x y) }
+{
+    if !has_no_sign(width, a) {
+        return None;
+    }
+    match width {
+        Width::W32 => shift_right(a, b, 32),
+        Width::W64 => shift_right(a, b, 64),
+    }
 }
 
 /// What is known of a disjunction: it is no less than each operand, and no more than their sum.
@@ -268,12 +323,54 @@ fn low(a: Option<Range>) -> Option<Range>
     }
 }
 
-/// What is known of a sum of 32 bits.
-fn sum_of_halves(a: Option<Range>, b: Option<Range>) -> Option<Range>
-    ensures { (x y : ℕ) → IsIn a x → IsIn b y →
-        IsIn result ((x % 2 ^ 32 + y % 2 ^ 32) % 2 ^ 32) }
+/// What is known of the low 32 bits of a number, by what is known of its low 64 bits.
+fn low_of_wrapped(a: Option<Range>) -> Option<Range>
+    ensures { (n : ℕ) → IsIn a (n % 2 ^ 64) → IsIn result (n % 2 ^ 32) }
 {
-    low(sum(low(a), low(b)))
+    low(a)
+}
+
+/// What is known of a number of 32 bits.
+fn half(a: Option<Range>) -> Option<Range>
+    ensures { (n : ℕ) → n < 2 ^ 32 → IsIn a n → IsIn result n }
+{
+    low(a)
+}
+
+/// What is known of a difference of 32 bits.
+fn difference_of_halves(a: Option<Range>, b: Option<Range>) -> Option<Range>
+    ensures { (x y : ℕ) → x < 2 ^ 32 → y < 2 ^ 32 → IsIn a x → IsIn b y →
+        IsIn result ((x + (2 ^ 32 - y)) % 2 ^ 32) }
+{
+    match (a, b) {
+        (Some(a), Some(b)) if b.high <= a.low && b.low <= b.high && a.low <= a.high => {
+            between(a.low - b.high, a.high - b.low)
+        }
+        _ => between(0, 0xffff_ffff),
+    }
+}
+
+/// What is known of the result of an operation on numbers of 32 bits: what is known of that on
+/// numbers of 64 bits, if it needs no more than 32.
+fn result_of_halves(operation: Operation, a: Option<Range>, b: Option<Range>) -> Option<Range>
+    ensures { (x y : ℕ) → x < 2 ^ 32 → y < 2 ^ 32 → IsIn a x → IsIn b y →
+        IsIn result (operate W32 operation x y) }
+{
+    match operation {
+        Operation::Mov => b,
+        Operation::Add => low_of_wrapped(sum(a, b)),
+        Operation::Sub => difference_of_halves(a, b),
+        Operation::Mul => low_of_wrapped(product(a, b)),
+        Operation::Div => quotient(a, number_of(b)),
+        Operation::Mod => remainder(a, b),
+        Operation::And => conjunction(a, b),
+        Operation::Or => half(disjunction(a, b)),
+        Operation::Xor => half(exclusive_disjunction(a, b)),
+        Operation::Lsh => low_of_wrapped(shift_left(a, b, 32)),
+        Operation::Rsh => shift_right(a, b, 32),
+        Operation::Arsh => arithmetic_shift_right(Width::W32, a, b),
+        Operation::SignedDiv | Operation::SignedMod => between(0, 0xffff_ffff),
+    }
 }
 
 /// What is known of the result of an operation.
@@ -292,19 +389,15 @@ pub(crate) fn result_of(
         (Width::W64, Operation::Sub) => difference(a, b),
         (Width::W64, Operation::Mul) => product(a, b),
         (Width::W64, Operation::Div) => quotient(a, number_of(b)),
-        (Width::W64, Operation::Mod) => remainder(b),
-        (Width::W64, Operation::And) => conjunction(b),
-        (Width::W64, Operation::Lsh) => shift_left(a, b),
-        (Width::W64, Operation::Rsh) => shift_right(a, b, 64),
+        (Width::W64, Operation::Mod) => remainder(a, b),
+        (Width::W64, Operation::And) => conjunction(a, b),
         (Width::W64, Operation::Or) => disjunction(a, b),
-        (Width::W32, Operation::Mov) => low(b),
-        (Width::W32, Operation::And) => conjunction(low(b)),
-        (Width::W32, Operation::Add) => sum_of_halves(a, b),
-        (Width::W32, Operation::Div) => quotient(low(a), number_of(low(b))),
-        (Width::W32, Operation::Mod) => remainder(low(b)),
-        (Width::W32, Operation::Rsh) => shift_right(low(a), low(b), 32),
-        (Width::W32, Operation::Or) => disjunction(low(a), low(b)),
-        _ => None,
+        (Width::W64, Operation::Xor) => exclusive_disjunction(a, b),
+        (Width::W64, Operation::Lsh) => shift_left(a, b, 64),
+        (Width::W64, Operation::Rsh) => shift_right(a, b, 64),
+        (Width::W64, Operation::Arsh) => arithmetic_shift_right(width, a, b),
+        (Width::W64, Operation::SignedDiv | Operation::SignedMod) => None,
+        (Width::W32, _) => result_of_halves(operation, low(a), low(b)),
     }
 }
 
@@ -341,8 +434,8 @@ fn other_than(a: Option<Range>, b: Range) -> Option<Range>
         a
     } else if range.low == b.low && range.low < u64::MAX {
         at_least(a, range.low + 1)
-    } else if range.high == b.low && range.high > 0 {
-        at_most(a, range.high - 1)
+    } else if top_of(range) == b.low && b.low > 0 {
+        at_most(a, b.low - 1)
     } else {
         a
     }

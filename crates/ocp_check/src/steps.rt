@@ -27,7 +27,7 @@ use crate::covering::{
 };
 use crate::form::{Form, form_of_result};
 use crate::laws::accesses_are_there;
-use crate::loading::numbers_of;
+use crate::loading::{numbers_in, numbers_of, numbers_of_width};
 use crate::range::{
     Range, Test, is_empty, is_there, is_within, number_of, only, refinement, result_of, sum,
 };
@@ -238,9 +238,9 @@ pub(crate) fn after_line(node: &Node, line: &Line) -> Option<Node>
 {
     accesses_are_there();
     match *line {
-        Line::Negate { dst, .. } => Some(after_write(node, dst, None)),
+        Line::Negate { width, dst } => Some(after_write(node, dst, numbers_of_width(width))),
         Line::MoveExtended { dst, .. } => Some(after_write(node, dst, None)),
-        Line::ByteOrder { dst, .. } => Some(after_write(node, dst, None)),
+        Line::ByteOrder { width, dst, .. } => Some(after_write(node, dst, numbers_in(width))),
         Line::LoadExtended { dst, .. } => Some(after_write(node, dst, None)),
         Line::LoadWide { dst, value } => Some(after_write(node, dst, only(value))),
         Line::Arithmetic {

@@ -8,7 +8,9 @@ ghost use Rattle.ocp_check.specs.Mirror.Ranges.{IsIn, IsThere};
 ghost use Rattle.ocp_check.specs.Mirror.Forms.{IsForm, bases_after};
 ghost use Rattle.ocp_check.specs.Mirror.Words.{IsWord, AreWords, IsSameFrom, greater, word_above};
 
-use crate::form::{BASES, Form, Forms, form_of_known, is_free, is_of_base, is_shifted};
+use crate::form::{
+    BASES, Form, Forms, form_of_known, is_free, is_of_base, is_shifted, range_by_tie,
+};
 use crate::range::{Range, is_within, number_of};
 use ocp_regions::laws::loads_give_what_was_stored;
 use ocp_regions::{STACK, STACK_OCTETS};
@@ -192,6 +194,30 @@ pub(crate) fn words_with(
         }
     }
     after
+}
+
+/// What is known of a word, if this is known of a number of a form.
+fn word_with_known(word: Option<Word>, form: Option<Form>, known: Option<Range>) -> Option<Word>
+    ensures { (bases : ℕ → ℕ) (m : Octets) (v : ℕ) → IsWord word bases m →
+        IsForm form bases v → IsIn known v → IsWord result bases m }
+{
+    let word = word?;
+    Some(Word {
+        known: range_by_tie(word.known, word.form, form, known),
+        ..word
+    })
+}
+
+/// What is known of the words, if this is known of a number of a form.
+pub(crate) fn words_with_known(words: &Words, form: Option<Form>, known: Option<Range>) -> Words
+    ensures { (bases : ℕ → ℕ) (m : Octets) (v : ℕ) → AreWords words.now bases m →
+        IsForm form bases v → IsIn known v → AreWords result bases m }
+{
+    let mut changed = *words;
+    for k in 0..WORDS {
+        changed[k] = word_with_known(words[k], form, known);
+    }
+    changed
 }
 
 /// Whether a word is of a base.

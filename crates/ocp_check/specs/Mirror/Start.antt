@@ -1,5 +1,5 @@
 -- What is known of a machine that is started.
-use Rattle.std.specs.Prelude.{[], ◌∷◌, Some, None}
+use Rattle.std.specs.Prelude.{◌-◌, ◌^◌, [], ◌∷◌, Some, None}
 use Rattle.ocp_regions.specs.declared.regions.TheConstants.{ARGUMENTS, ARGUMENT_OCTETS}
 use Rattle.bpf_step.specs.declared.frame.TheConstants.{FRAME_POINTER}
 use Rattle.ocp_check.specs.declared.certificate.Node.{Node}
@@ -18,7 +18,7 @@ node_at_start = record {
   forms = no_forms;
   words = no_words;
   kept = 0;
-  spared = 0;
+  spared = 2 ^ 64 - 1;
   depth = 0;
   promise = None;
 }

@@ -3,17 +3,24 @@ use Rattle.bpf_types.specs.Line.{octets_in}
 use Rattle.bpf_moves.specs.Moves.{address_in}
 use Rattle.ocp_regions.specs.Memory.{number_in_memory, memory_after_store}
 use Rattle.ocp_check.specs.Mirror.Ranges.{IsThere}
+use Rattle.bpf_values.specs.Value.{byte_order_result, negation}
+use Rattle.ocp_check.proofs.Widths.{negated}
 use Rattle.ocp_check.proofs.Kept.{leads_by_line, leads_load, leads_store}
 use Rattle.ocp_check.proofs.steps.after_line.Goals as goal
 
 pub returns-in-Negate : goal.returns-in-Negate
-returns-in-Negate c = λ certificate s i. leads_by_line certificate _ s c.in-Negate.is (λ there. (refl, c.after_write.ensures certificate s _ 1 i tt))
+returns-in-Negate c = λ certificate s i. leads_by_line certificate _ s c.in-Negate.is (λ there.
+    (refl, c.after_write.ensures certificate s (negation c.in-Negate.width (get_or s.registers c.in-Negate.dst 0)) 1 i (c.numbers_of_width.ensures _ (negated c.in-Negate.width (get_or s.registers c.in-Negate.dst 0)))))
 
 pub returns-in-MoveExtended : goal.returns-in-MoveExtended
 returns-in-MoveExtended c = λ certificate s i. leads_by_line certificate _ s c.in-MoveExtended.is (λ there. (refl, c.after_write-in-MoveExtended.ensures certificate s _ 1 i tt))
 
 pub returns-in-ByteOrder : goal.returns-in-ByteOrder
-returns-in-ByteOrder c = λ certificate s i. leads_by_line certificate _ s c.in-ByteOrder.is (λ there. (refl, c.after_write-in-ByteOrder.ensures certificate s _ 1 i tt))
+returns-in-ByteOrder c = λ certificate s i. leads_by_line certificate _ s c.in-ByteOrder.is (λ there. (
+  refl,
+  c.after_write-in-ByteOrder.ensures certificate s (byte_order_result c.in-ByteOrder.order c.in-ByteOrder.width (get_or s.registers c.in-ByteOrder.dst 0)) 1 i
+      (c.numbers_in.ensures c.in-ByteOrder.order (get_or s.registers c.in-ByteOrder.dst 0)),
+))
 
 pub returns-in-LoadExtended : goal.returns-in-LoadExtended
 returns-in-LoadExtended c = λ certificate s i. leads_by_line certificate _ s c.in-LoadExtended.is (λ there.
