@@ -30,7 +30,8 @@ from typing import NamedTuple, Optional, Tuple, Union
 
 if __name__ == "__main__":
     sys.dont_write_bytecode = True
-from parting import PRIMARY, REPORTS, Parting, error_control
+import word_table  # noqa: E402
+from parting import PRIMARY, REPORTS, Parting, error_control  # noqa: E402
 
 ACCEPTANCE, START, PROGRESS, COMPLETION = 1, 2, 4, 8
 ALL_FLAGS = ACCEPTANCE | START | COMPLETION
@@ -202,7 +203,7 @@ class Gap(NamedTuple):
         return f"count {self.count} comes after count {self.before}: out of order, repeated, or of another engine"
 
 
-Report = Union[Verification, Status]
+Report = Union[Verification, Status, word_table.Housekeeping, word_table.EventReport]
 
 
 def _code(subtype, data, packet):
@@ -220,8 +221,8 @@ def _code(subtype, data, packet):
     return code, data[6], int.from_bytes(data[7:9], "big")
 
 
-def read(packet):
-    """The report of one whole telemetry packet, or PacketFault."""
+def read(packet, table=None):
+    """The report of one whole telemetry packet, or PacketFault. With the table of a mission's words, also that of its flight software."""
     if len(packet) < PRIMARY or len(packet) != int.from_bytes(packet[4:6], "big") + 7:
         raise PacketFault("Cut", f"{len(packet)} octets are not the packet's length", packet)
     if packet[0] >> 3 != 1 or packet[2] >> 6 != 3 or len(packet) < REPORTS.least:
@@ -234,6 +235,11 @@ def read(packet):
     common = (int.from_bytes(packet[:2], "big") & 0x7FF, int.from_bytes(packet[2:4], "big") & 0x3FFF,
               int.from_bytes(packet[11:13], "big"), int.from_bytes(packet[13:17], "big"))
     service, subtype, data = packet[7], packet[8], packet[17:-2]
+    if table and common[0] == table.apid:
+        try:
+            return table.report(common, (service, subtype), data)
+        except ValueError as fault:
+            raise PacketFault("Layout", str(fault), packet) from None
     if service == 1 and subtype in STAGES:
         stage, succeeded = STAGES[subtype]
         if len(data) < 4 or (succeeded and len(data) != 4):
@@ -251,31 +257,32 @@ def read(packet):
 class Stream:
     """Octets in, in any pieces; reports and faults out. What comes after a bad packet is found again."""
 
-    def __init__(self, apid=None):
-        self.parting = Parting(REPORTS, apid)
+    def __init__(self, apid=None, table=None):
+        self.table = table
+        kind = REPORTS._replace(most=max(REPORTS.most, PRIMARY + 11 + table.octets + ERROR_CONTROL)) if table else REPORTS
+        self.parting = Parting(kind, [apid, table.apid] if table and apid is not None else apid)
 
     def feed(self, octets):
         """The reports and faults that these octets complete."""
-        return [_report(piece) for piece in self.parting.feed(octets)]
+        return [self._report(piece) for piece in self.parting.feed(octets)]
 
     def quiet(self):
         """The reports that an unfinished one holds back, if no more octets come for now."""
-        return [_report(piece) for piece in self.parting.quiet()]
+        return [self._report(piece) for piece in self.parting.quiet()]
 
     def close(self):
         """What the end of the stream leaves: a cut packet is a fault."""
-        return [_report(piece) for piece in self.parting.close()]
+        return [self._report(piece) for piece in self.parting.close()]
 
-
-def _report(piece):
-    """The report of a packet, or the fault of it and of octets that are none."""
-    if piece.fault:
-        said = f"{len(piece.octets)} octets are no whole report and are passed over"
-        return PacketFault(piece.fault, said, piece.octets[:REPORTS.most])
-    try:
-        return read(piece.octets)
-    except PacketFault as fault:
-        return fault
+    def _report(self, piece):
+        """The report of a packet, or the fault of it and of octets that are none."""
+        if piece.fault:
+            said = f"{len(piece.octets)} octets are no whole report and are passed over"
+            return PacketFault(piece.fault, said, piece.octets[:REPORTS.most])
+        try:
+            return read(piece.octets, self.table)
+        except PacketFault as fault:
+            return fault
 
 
 # ---- an engine, and what was asked of it
@@ -321,14 +328,15 @@ def _listed(names):
 
 class Ground:
     """One side of a link: counts requests, and keeps those whose last report has not come. If the engine is `shared` with other
-    clients, the reports that are missing in the count may be theirs, and there are no gaps."""
+    clients, the reports that are missing in the count may be theirs, and there are no gaps. With the table of a mission's words
+    it also reads the packets of flight software."""
 
-    def __init__(self, link, source=0, apid=291, count=0, shared=False):
+    def __init__(self, link, source=0, apid=291, count=0, shared=False, table=None):
         self.link, self.source, self.apid, self.count, self.shared = link, source, apid, count, shared
-        self.stream = Stream(apid)
+        self.stream = Stream(apid, table)
         self.waiting = deque()
         self.open = {}
-        self.last = None  # the sequence count of the last report
+        self.last = {}  # the sequence count of the last report of each application process
         self.heard = time.monotonic()
 
     def name(self):
@@ -373,10 +381,11 @@ class Ground:
         """Adds them to those that wait, each after the gap before it."""
         for report in reports:
             if not isinstance(report, PacketFault):
-                missing = 0 if self.last is None else (report.count - self.last - 1) % COUNTS
+                last = self.last.get(report.apid)
+                missing = 0 if last is None else (report.count - last - 1) % COUNTS
                 if missing and not self.shared:
-                    self.waiting.append(Gap(missing, self.last, report.count))
-                self.last = report.count
+                    self.waiting.append(Gap(missing, last, report.count))
+                self.last[report.apid] = report.count
             self.waiting.append(report)
 
     def _take(self, report):
@@ -609,6 +618,8 @@ class Shown:
         self.source, self.good = source, True
 
     def is_own(self, report):
+        if isinstance(report, (word_table.Housekeeping, word_table.EventReport)):
+            return True
         return report.destination == self.source or (isinstance(report, Verification) and report.code in UNTRUSTED)
 
     def report(self, report):
@@ -695,6 +706,8 @@ def options_of(words):
     parser.add_argument("--capture", metavar="FILE", help="also keep the packets in a file that Wireshark reads")
     parser.add_argument("--check", type=int, choices=(1, 2), metavar="PROFILE",
                         help="before anything is sent, say what `ocp check` does not show of each image that is loaded")
+    parser.add_argument("--words", dest="table", metavar="FILE",
+                        help="the table of the mission's words: also show the packets of its flight software")
     parser.add_argument("--ocp", default=OCP, metavar="PROGRAM", help="the program for --check (default: that of this repository)")
     parser.add_argument("words", nargs="+", metavar="COMMAND", help=", ".join(f"{k} {v}".strip() for k, v in FORMS.items()))
     options = parser.parse_args(words)
@@ -713,9 +726,18 @@ def link_of(options):
     return Capture(link, kept) if kept else link
 
 
+def table_of(options):
+    """The table of words that the options name, or none; ValueError if it is faulty."""
+    try:
+        return word_table.read(options.table) if options.table else None
+    except (word_table.Fault, ImportError) as fault:
+        raise ValueError(fault) from None
+
+
 def run(options, commands):
     """Does the commands over the link; gives whether all went well."""
-    ground = Ground(link_of(options), options.source, options.apid, options.count, options.shared)
+    table = table_of(options)
+    ground = Ground(link_of(options), options.source, options.apid, options.count, options.shared, table)
     shown = Shown(options.source)
     try:
         for verb, what in commands:

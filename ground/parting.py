@@ -104,7 +104,8 @@ class Piece(NamedTuple):
 
 
 class Parting:
-    """Octets in; packets and what was passed over out. With no identifier it finds packets of any application process."""
+    """Octets in; packets and what was passed over out. With no identifier it finds packets of any application process, with a list
+    of identifiers those of each of them."""
 
     def __init__(self, kind, apid=None):
         self.kind = kind
@@ -115,11 +116,13 @@ class Parting:
         self.lost = b""  # octets without a header that are not given yet
         self.found = []
         first = kind.type << 4 | 0x08
-        named = [f"[\\x{first:02x}-\\x{first | 7:02x}]", "."] if apid is None else [f"\\x{first | apid >> 8:02x}", f"\\x{apid & 255:02x}"]
-        parts = [*named, "[\\xc0-\\xff]", ".", ".", "."]
+        named = [[f"[\\x{first:02x}-\\x{first | 7:02x}]", "."]] if apid is None else [
+            [f"\\x{first | one >> 8:02x}", f"\\x{one & 255:02x}"] for one in ([apid] if isinstance(apid, int) else apid)]
+        parts = ["[\\xc0-\\xff]", ".", ".", "."]
         # the first octets of a header, one to six
-        self.begins = [re.compile("".join(parts[:size]).encode(), re.DOTALL) for size in range(1, PRIMARY + 1)]
-        self.headers = re.compile(f"(?={''.join(parts)})".encode(), re.DOTALL)
+        begins = ["|".join("".join([*one, *parts][:size]) for one in named) for size in range(1, PRIMARY + 1)]
+        self.begins = [re.compile(begin.encode(), re.DOTALL) for begin in begins]
+        self.headers = re.compile(f"(?={begins[-1]})".encode(), re.DOTALL)
 
     def feed(self, octets):
         """What these octets complete."""

@@ -4,8 +4,8 @@
     container, values = database.decode(packet)
     octets = database.encode("stop", id=7, step=2)
 
-Numbers are unsigned. An array is a list, an aggregate a dictionary. What the file leaves to the ground system, a telecommand's
-count, length and error control, is done by `sealed`.
+A number has a sign if its encoding is twosComplement. An array is a list, an aggregate a dictionary. What the file leaves to
+the ground system, a telecommand's count, length and error control, is done by `sealed`.
 """
 import binascii
 import xml.etree.ElementTree as ET
@@ -93,7 +93,15 @@ class Database:
             return [self.read(made.get("arrayTypeRef"), bits, values) for _ in range(self.length(made, values))]
         if made.tag == "AggregateParameterType":
             return {one.get("name"): self.read(one.get("typeRef"), bits, values) for one in made.iter("Member")}
-        number = bits.take(int(made.find("IntegerDataEncoding").get("sizeInBits")))
+        encoding = made.find("IntegerDataEncoding")
+        size = int(encoding.get("sizeInBits"))
+        number = bits.take(size)
+        if encoding.get("encoding") == "twosComplement" and number >> size - 1:
+            number -= 1 << size
+        if made.tag == "BooleanParameterType":
+            if number > 1:
+                raise Refused(f"{type_name} is {number}")
+            return bool(number)
         if made.tag != "EnumeratedParameterType":
             return number
         label = next((one.get("label") for one in made.iter("Enumeration") if int(one.get("value")) == number), None)

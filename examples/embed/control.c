@@ -17,6 +17,7 @@
  * the pool, as the console prints it.
  *
  * Status: 0 the loop held the temperature, and both engines end alike; 1 it did not, and one line says why; 2 wrong words. */
+#include "../flight/pool.h"
 #include "ocp_engine.h"
 #include "ocp_journal.h"
 #include "ocp_octets.h"
@@ -35,11 +36,7 @@ enum {
     PROCEDURE = 7,
     ROUND = 1000, /* the most instructions of a round */
 
-    /* the pool */
-    TEMPERATURE = 0, /* flight software writes it */
-    HEATER = 1,      /* the procedure writes it: 1 on, 0 off */
-    CYCLE = 2,       /* flight software writes it */
-    POOL_WORDS = 3,
+    WORDS = POOL_CYCLE + 1, /* of the mission's pool: those that a thermostat needs */
 
     /* what ground sends, and when */
     FIRST_CHANGE = 5000,
@@ -56,7 +53,7 @@ enum {
 };
 
 static struct journal_writer journal = {
-    .with = {.profile = 1, .apid = APID, .pool_words = POOL_WORDS, .entries = 256, .octets = 65536}, .flight = 1, .cycles = 10, .file = -1};
+    .with = {.profile = 1, .apid = APID, .pool_words = WORDS, .entries = 256, .octets = 65536}, .flight = 1, .cycles = 10, .file = -1};
 static struct ocp_engine engine = OCP_CLOSED, second = OCP_CLOSED;
 static uint64_t entries; /* that the second engine did */
 static uint32_t cycle;
@@ -175,8 +172,8 @@ static void send_telecommands(void)
 
 static void write_inputs(void)
 {
-    must(ocp_put_word(&engine, TEMPERATURE, measured()), "ocp_put_word");
-    must(ocp_put_word(&engine, CYCLE, cycle), "ocp_put_word");
+    must(ocp_put_word(&engine, POOL_TEMPERATURE, measured()), "ocp_put_word");
+    must(ocp_put_word(&engine, POOL_CYCLE, cycle), "ocp_put_word");
 }
 
 /* A round of each running procedure, by rising identifier. Gives whether there was one. */
@@ -198,7 +195,7 @@ static bool give_rounds(void)
 static bool read_output(void)
 {
     uint64_t word;
-    must(ocp_pool_word(&engine, HEATER, &word), "ocp_pool_word");
+    must(ocp_pool_word(&engine, POOL_HEATER, &word), "ocp_pool_word");
     return word == 1;
 }
 
@@ -275,14 +272,14 @@ static void run_cycles(uint32_t cycles)
 /* ---- the replay */
 
 /* What is seen of an engine: its events, its pool, and the registers of the procedure. */
-enum { REGISTERS = 11, SEEN = 1 + POOL_WORDS + REGISTERS };
+enum { REGISTERS = 11, SEEN = 1 + WORDS + REGISTERS };
 
 static void see(struct ocp_engine *one, uint64_t *seen, struct ocp_view *view)
 {
     must(ocp_events(one, seen), "ocp_events");
-    for (uint64_t index = 0; index < POOL_WORDS; index++)
+    for (uint64_t index = 0; index < WORDS; index++)
         must(ocp_pool_word(one, index, seen + 1 + index), "ocp_pool_word");
-    must(ocp_view(one, PROCEDURE, view, seen + 1 + POOL_WORDS, REGISTERS), "ocp_view");
+    must(ocp_view(one, PROCEDURE, view, seen + 1 + WORDS, REGISTERS), "ocp_view");
 }
 
 /* What is seen of both engines has to be the same. */
@@ -296,7 +293,7 @@ static void compare_engines(void)
         fail("the engines differ after the replay");
     printf("%" PRIu32 " cycles, %" PRIu64 " events, %" PRIu64 " entries; at most %.1f degrees off; the replay is the same\n",
            cycle, flown[0], entries, farthest / 10);
-    for (uint64_t index = 0; index < POOL_WORDS; index++)
+    for (uint64_t index = 0; index < WORDS; index++)
         show_word(&engine, index);
 }
 

@@ -5,7 +5,7 @@
 
 #include <stdint.h>
 
-/* Milliseconds: from a cycle to the next, and when the next one is due. */
+/* In one unit of time: from a cycle to the next, and when the next one is due. */
 struct cycles {
     uint64_t period, due;
 };

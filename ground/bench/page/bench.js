@@ -67,7 +67,7 @@ guarded(async () => {
     at("help").open = localStorage.getItem("bench texts") === null;
     bringBack();
     let shielded;
-    ({ names: it.names, clang: it.clang, knows: it.knows, shielded } = await question("names", {}));
+    ({ names: it.names, words: it.words, clang: it.clang, knows: it.knows, shielded } = await question("names", {}));
     at("unshielded").hidden = !it.clang || shielded;
     script.whenRead((place, from) => from === undefined ? walk(place) : passRead(place, from));
     script.start();

@@ -1,7 +1,7 @@
 // What all parts of the page share: its state, the questions to the server, and its words on faults.
 export const at = name => document.getElementById(name);
 export const it = {
-    names: {}, clang: false, knows: [],
+    names: {}, words: [], clang: false, knows: [],
     texts: [], tab: 0,                                  // the texts, and the one that is shown
     key: null, lines: [], rows: [], starts: [0], total: 0,  // the pass as the program ran it
     moment: [0, 0], chosen: null, state: null,          // where the walk is

@@ -22,7 +22,8 @@ export function showState(state, before, pick) {
     for (const name of ["stack", "arguments", "work"]) showRegion(name, state.memory[name], before.memory[name]);
     at("words").replaceChildren(...state.pool.map((word, index) => {
         const differs = before.pool[index] !== word;
-        return make("span", `${String(index).padStart(3)} ${word}${differs ? ` before ${before.pool[index]}` : ""}\n`, differs ? "changed" : "");
+        const name = it.words[index] ? ` ${it.words[index]}` : "";
+        return make("span", `${String(index).padStart(3)} ${word}${name}${differs ? ` before ${before.pool[index]}` : ""}\n`, differs ? "changed" : "");
     }));
     at("drain").textContent = state.drain.join("\n");
     at("mailbox").textContent = mailboxText(state.mailbox, view);
@@ -82,7 +83,7 @@ export function changesOf(state, before) {
         const first = octets.slice(0, 4).map(at => `${(start + at / 2).toString(16)}: ${past.slice(at, at + 2)} → ${digits.slice(at, at + 2)}`);
         found.push(`${name} ${first.join(", ")}${octets.length > 4 ? ` and ${octets.length - 4} octets` : ""}`);
     }
-    state.pool.forEach((word, index) => { if (word !== before.pool[index]) found.push(`pool ${index} ${short(before.pool[index])} → ${short(word)}`); });
+    state.pool.forEach((word, index) => { if (word !== before.pool[index]) found.push(`pool ${index}${it.words[index] ? ` ${it.words[index]}` : ""} ${short(before.pool[index])} → ${short(word)}`); });
     return found;
 }
 const short = word => `0x${word.replace(/^0+(?=.)/, "")}`;
