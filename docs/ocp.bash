@@ -4,14 +4,14 @@ _ocp() {
     [ "$command" != try ] || [ "$COMP_CWORD" = 2 ] || command=${COMP_WORDS[2]}
     case $command in
         asm) words='--profile --help' ;;
-        bench) words='--port --program --help' ;;
+        bench) words='--port --words --program --help' ;;
         build) words='--cores --times --chain --help' ;;
         check) words='--profile --pool --help' ;;
         dist) words='--to --help' ;;
         install) words='--help' ;;
         library) words='--target --cores --unproved --help' ;;
         list) words='--help' ;;
-        live) words='--profile --apid --pool --journal --help' ;;
+        live) words='--profile --apid --pool --journal --words --help' ;;
         run) words='--profile --apid --pool --journal --help' ;;
         test) words='--jobs --help' ;;
         try) words='asm check list run help --help --version' ;;

@@ -37,8 +37,6 @@ def clone(folder: Path) -> Path:
     for name in ("ocp", "README.md", "crates.txt", "HANDLES", "embed/heap.c"):
         (folder / name).parent.mkdir(exist_ok=True)
         shutil.copy(ROOT / name, folder / name)
-    (folder / "tests").mkdir()
-    (folder / "tests/help").symlink_to(ROOT / "tests/help")
     for source in ROOT.glob("crates/*/*"):
         if source.name in ("src", "specs", "proofs"):
             (folder / "crates" / source.parent.name).mkdir(parents=True, exist_ok=True)

@@ -8,8 +8,8 @@ import signal
 import sys
 import types
 
+from support import ROOT  # the model is beside ground's tools
 import profile_model
-from support import ROOT
 
 OTHER = {
     ast.Lt: ast.LtE, ast.LtE: ast.Lt, ast.Gt: ast.GtE, ast.GtE: ast.Gt, ast.Eq: ast.NotEq, ast.NotEq: ast.Eq, ast.In: ast.NotIn,
@@ -46,7 +46,7 @@ class Sources:
 
 
 def sources():
-    return Sources({name: (ROOT / f"tests/profile_model/{name}.py").read_text() for name in profile_model.MODULES})
+    return Sources({name: (ROOT / f"ground/profile_model/{name}.py").read_text() for name in profile_model.MODULES})
 
 
 class Change:

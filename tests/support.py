@@ -4,6 +4,7 @@ from __future__ import annotations
 import importlib.machinery
 import importlib.util
 import os
+import resource
 import shutil
 import subprocess
 import sys
@@ -15,7 +16,7 @@ from typing import Any, ClassVar, Sequence, Union
 
 sys.dont_write_bytecode = True
 ROOT = Path(__file__).resolve().parent.parent
-sys.path.insert(0, str(ROOT / "tools"))
+sys.path[:0] = [str(ROOT / "tools"), str(ROOT / "ground")]
 PROGRAM = Path(os.environ.get("OCP_PROGRAM", ROOT / "crates/ocp/out/ocp")).resolve()
 # The programs of library calls, and of the calls of seats. `rt ci` leaves them here, and so does `rt run` in their folders.
 LIBRARY = Path(os.environ.get("OCP_LIBRARY", ROOT / "crates/lib_driver/out/lib_driver")).resolve()
@@ -46,6 +47,17 @@ def module_of(path: Path) -> ModuleType:
     module = importlib.util.module_from_spec(spec)
     loader.exec_module(module)
     return module
+
+
+def small_files(octets: int = 4096) -> None:
+    """As on a full disk: no file takes more than these octets. A process begins with this."""
+    resource.setrlimit(resource.RLIMIT_FSIZE, (octets, octets))
+
+
+def is_alive(number: int | str) -> bool:
+    """Whether a process runs; one that ended and that nobody waited for does not."""
+    status = Path(f"/proc/{number}/stat")
+    return status.exists() and ") Z " not in status.read_text()
 
 
 def needs(*programs: str) -> Any:

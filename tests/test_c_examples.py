@@ -4,7 +4,7 @@ import re
 import shutil
 
 from c_tools import TOOLS, build, needs_clang, newest
-from support import ROOT, Case, ocp, run
+from support import PROGRAM, ROOT, Case, needs, ocp, run
 
 INCLUDE = '#include "ocp.h"\n'
 CALLED = "bash sed grep sort head od tr awk cat wc mktemp rm dirname readlink paste tail".split()  # by tools/c_build
@@ -26,6 +26,10 @@ TEXTS = (
     ("extern word outside;\nword entry(const octet *a, word n) { return outside; }", "`outside`"),
     ("word entry(const octet *a, word n) { return n + ADDED; }", "clang refuses it"),
 )
+# Bodies that may read an octet after the arguments, or not; that never end; and that no load takes.
+OPEN, SHOWN, ENDLESS = "return a[n];", "return n < 256 ? a[n] : 0;", "for (;;) pool_set(0, n);"
+ATOMIC = "__sync_fetch_and_add((word *)WORK, 1); return n;"
+MAKEFILE = f".DELETE_ON_ERROR:\n%.hex: %.c\n\t{ROOT}/tools/c_build -c $< > $@\n"
 # Files that are no text in C, and a word of why.
 NO_TEXTS = (("text.asm", "exit\n", "does not end in .c"), ("words.c", "a line of words\n", "this is no text in C"),
             ("object.c", "\x7fELF\n", "this is no text in C"))
@@ -136,3 +140,38 @@ class Build(Case):
         answer = build("-c", text, env={**os.environ, "OCP": "/nowhere/ocp"})
         self.assertEqual(answer.returncode, 1)
         self.assertIn("ocp check ended with status 127", answer.stderr)
+
+
+@needs_clang("llvm-objdump")
+class Verdicts(Case):
+    """The status of `tools/c_build -c` is the verdict's, so that a makefile can gate on it."""
+
+    seconds = 10
+    program = {**os.environ, "OCP": str(PROGRAM)}
+
+    def setUp(self):
+        self.folder = self.room()
+
+    def built(self, body, *options):
+        (self.folder / "text.c").write_text(f"{INCLUDE}word entry(const octet *a, word n)\n{{\n    {body}\n}}\n")
+        return build(*options, self.folder / "text.c", env=self.program)
+
+    def test_the_status_is_that_of_the_verdict(self):
+        for body, status in ((SHOWN, 0), (OPEN, 1), (ENDLESS, 1), (ATOMIC, 1), ("return nothing;", 1)):
+            with self.subTest(body=body):
+                self.assertEqual(self.built(body, "-c").returncode, status)
+        self.assertEqual(self.built(OPEN).returncode, 0, "without -c an image is enough")
+
+    def test_lines_are_written_also_if_something_is_open(self):
+        done = self.built(OPEN, "-g", "-c")
+        self.assertEqual((done.returncode, done.stdout), (1, self.built(OPEN).stdout))
+        self.assertIn("text.c:4", (self.folder / "text.lines").read_text())
+        self.assertIn("text.c:4: slot", done.stderr)
+
+    @needs("make")
+    def test_a_makefile_keeps_only_images_that_are_shown(self):
+        (self.folder / "Makefile").write_text(MAKEFILE)
+        for body, kept in ((OPEN, False), (SHOWN, True)):
+            self.built(body)
+            done = run(["make", "-C", self.folder, "text.hex"], env=self.program)
+            self.assertEqual((done.returncode == 0, (self.folder / "text.hex").exists()), (kept, kept), done.stderr)

@@ -4,14 +4,13 @@ from __future__ import annotations
 
 import os
 import re
-import resource
 import signal
 import subprocess
 import time
 from pathlib import Path
 
 from clones import clone
-from support import ROOT, Case, needs, run
+from support import ROOT, Case, is_alive, needs, run, small_files
 
 PROVER = """#!/bin/sh
 cd "$1" && name=$(basename "$PWD") && echo "$name" >> "$PROVED" && sleep 0.2
@@ -24,17 +23,6 @@ case $name in
 esac
 """
 TARGETS = {"out/libocp_c.a": "x86_64-unknown-linux-gnu", "out/aarch64-unknown-linux-gnu/libocp_c.a": "aarch64-unknown-linux-gnu"}
-
-
-def small_files() -> None:
-    resource.setrlimit(resource.RLIMIT_FSIZE, (100, 100))
-
-
-def is_alive(number: int) -> bool:
-    try:
-        return " Z" not in Path(f"/proc/{number}/stat").read_text().rpartition(")")[2][:3]
-    except FileNotFoundError:
-        return False
 
 
 @needs("rt")
@@ -130,7 +118,7 @@ class Build(Case):
         self.assertEqual(self.proved().count("bpf_types"), 1)
 
     def test_full_disk(self) -> None:
-        done = self.ocp("library", status=1, preexec_fn=small_files)
+        done = self.ocp("library", status=1, preexec_fn=lambda: small_files(100))
         said = "^library: .*File too large.*; what is proved is kept, and the next build resumes here$"
         self.assertRegex(done.stderr.splitlines()[-1], said)
         self.ocp("library")

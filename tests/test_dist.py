@@ -4,20 +4,15 @@ from __future__ import annotations
 import hashlib
 import os
 import re
-import resource
 import tarfile
 from pathlib import Path
 from typing import ClassVar
 
 from clones import built
-from support import Case, needs, run
+from support import Case, needs, run, small_files
 
 NAME = "ocp-0.1.0-x86_64-linux"
 SECONDS = "1700000000"
-
-
-def small_files() -> None:
-    resource.setrlimit(resource.RLIMIT_FSIZE, (4096, 4096))
 
 
 @needs("rt", "sha256sum")

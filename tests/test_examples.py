@@ -1,9 +1,16 @@
-"""The examples: each text gives its image, each image its listing, each script its transcript, and some script loads each image."""
+"""The cases of the console, and the examples: text, image, listing, script and transcript of each; some script loads each image."""
 import re
 
 from support import PROGRAM, ROOT, Case
 
 EXAMPLES = ROOT / "examples"
+
+
+class Cases(Case):
+    seconds = 3
+
+    def test_console(self):
+        self.follows(ROOT / "crates/ocp/cases")
 
 
 class Examples(Case):

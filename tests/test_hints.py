@@ -5,11 +5,8 @@ on standard error are a sentence with these words, the line as it was read, and 
 how inputs and marks are written."""
 import re
 
-from mistake_inputs import octets_of
-from support import ROOT, Case, ocp
-
-TABLE = (ROOT / "tests/mistakes").read_text(encoding="utf-8").splitlines()
-ROWS = [row for row in TABLE if row and not row.startswith("//")]
+from mistake_inputs import mistakes
+from support import Case, ocp
 
 
 def pattern_of(mark):
@@ -31,11 +28,8 @@ class Hints(Case):
         self.assertIn(said[1][4:], "".join(chr(it) if 32 <= it < 127 else "?" for it in given))
 
     def test_mistakes(self):
-        for row in ROWS:
+        for row, command, profile, answer, given, words, mark in mistakes():
             with self.subTest(row):
-                job, answer, text, words, mark = row.split(" | ")
-                command, profile = job.split()
-                given = octets_of(text)
                 done = ocp([command, *([] if command == "list" else ["--profile", profile])], given)
                 before = "journal 0\n" if given.startswith(b"journal\n") else ""
                 self.assertEqual((done.returncode, done.stdout.decode()), (1, f"{before}{answer}\n"))

@@ -2,7 +2,6 @@
 from __future__ import annotations
 
 import os
-import resource
 import shutil
 import signal
 import subprocess
@@ -11,7 +10,7 @@ from pathlib import Path
 from typing import ClassVar
 
 from clones import built, stamp
-from support import ROOT, Case, needs, run
+from support import ROOT, Case, needs, run, small_files
 
 FILES = ["bin/ocp", "include/ocp.h", "include/ocp_engine.h", "include/ocp_heap.h", "include/ocp_journal.h", "include/ocp_octets.h",
          "lib/aarch64-unknown-linux-gnu/libocp_c.a", "lib/libocp_c.a", "lib/pkgconfig/ocp_c.pc", "share/bash-completion/completions/ocp",
@@ -21,11 +20,6 @@ LIBRARY = ROOT / "crates/ocp_c/out/libocp_c.a"
 
 def files_below(folder: Path) -> list[str]:
     return sorted(str(it.relative_to(folder)) for it in folder.rglob("*") if it.is_file())
-
-
-def small_files() -> None:
-    """As on a full disk: no file takes more than 4,096 octets."""
-    resource.setrlimit(resource.RLIMIT_FSIZE, (4096, 4096))
 
 
 @needs("rt")

@@ -5,7 +5,7 @@ import re
 
 from support import ROOT, Case, needs, run
 
-TYPED = ["tools/source.py", "tests/support.py"]
+TYPED = ["tools/source.py", "tests/support.py", *(f"ground/ocp_ground/{path.name}" for path in ROOT.glob("ground/ocp_ground/*.py"))]
 # C for a clang with the target bpf alone.
 OF_PROCEDURES = "examples/c/"
 

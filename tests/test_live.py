@@ -16,7 +16,7 @@ from unittest import mock
 
 from support import ROOT, Case, module_of, ocp, run
 
-LIVE, HELP = ROOT / "tools/live", ROOT / "tests/help/run"
+LIVE, HELP = ROOT / "tools/live", ROOT / "docs/help/run"
 SCRIPTS = 500
 ENDS = ("\x0b", "\x0c", "\x1c", "\x1d", "\x1e", "\x85", "\u2028", "\u2029", "\r")  # str.splitlines parts at these, and the console does not
 SEVEN = "b70000000500000007000000020000009500000000000000"

@@ -6,7 +6,7 @@ from support import ROOT, Case, module_of, run
 
 import source
 
-MADE = ["tools/clock", "tools/help", "tools/pictures", "bench/picture"]
+MADE = ["tools/abi", "tools/clock", "tools/help", "tools/pictures", "tools/words", "bench/picture"]
 # Crates without a mutant: tests alone, drivers that owe safety alone, laws alone.
 WITHOUT_MUTANTS = {"ocp_tests", "lock_driver", "lib_driver", "lib_times", "ocp_assured"}
 MOST_IN_MUST_FAIL = 12

@@ -1,4 +1,4 @@
-"""The console's cases beside a second version of the profile, tests/profile_model, and what they would miss.
+"""The console's cases beside a second version of the profile, ground/profile_model, and what they would miss.
 
 Each case's output has to be what the model gives. So has the last line of each mistake of tests/mistakes, and of some inputs that are
 too long for a file here (test_commands gives them to the program). A case has to run each instruction in each form of its operands.
@@ -18,7 +18,7 @@ import time
 
 import model_changes
 from chance import scaled
-from mistake_inputs import octets_of
+from mistake_inputs import mistakes
 from support import ROOT, Case
 
 CASES = ROOT / "crates/ocp/cases"
@@ -75,12 +75,9 @@ def inputs():
         command = words.pop(0) if words and not words[0].startswith("-") else "run"
         options = {word[2:]: int(value) for word, value in zip(words[::2], words[1::2])}
         yield Input(case.name, command, case.read_bytes(), path.read_bytes().decode(), options)
-    for row in (ROOT / "tests/mistakes").read_text().splitlines():
-        if row and not row.startswith("//"):
-            job, wanted, text, *_ = row.split(" | ")
-            command, profile = job.split()
-            options = {} if command == "list" else {"profile": int(profile)}
-            yield LastLine(f"{command}: {wanted}", command, octets_of(text), wanted, options)
+    for _, command, profile, wanted, given, *_ in mistakes():
+        options = {} if command == "list" else {"profile": int(profile)}
+        yield LastLine(f"{command}: {wanted}", command, given, wanted, options)
     for command, text, wanted in LONG:
         yield LastLine(f"{command}: {wanted[:40]}", command, text, wanted, {})
 
@@ -129,6 +126,10 @@ class Cases(Case):
                 self.assertTrue(case.agrees(model), "the model gives another output")
         self.assertEqual(forms - ran, set(), "no case runs these forms of instructions")
 
+    def test_it_runs_by_itself(self):
+        case = CASES.parent / "stdin"
+        self.writes(case.with_name("stdout").read_bytes(), [sys.executable, "-B", ROOT / "ground/profile_model"], case.read_bytes())
+
 
 class Changes(Case):
     seconds = scaled(15) if CHANGES is None else 600
@@ -154,6 +155,6 @@ class Changes(Case):
         runs = self.runs(sources)
         resource.setrlimit(resource.RLIMIT_AS, (OCTETS, OCTETS))
         for change in changes:
-            with self.subTest(seed=SEED, line=f"tests/profile_model/{change.module}.py:{change.line}", change=change.key()):
+            with self.subTest(seed=SEED, line=f"ground/profile_model/{change.module}.py:{change.line}", change=change.key()):
                 is_excused = change.key() in excused
                 self.assertEqual(model_changes.shows(sources, runs, change), not is_excused, "a case shows it")

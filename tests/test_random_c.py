@@ -1,6 +1,6 @@
 """The verdict of `ocp check` on 300 random procedures in C, and runs of them.
 
-`c_procedures.py` writes the texts: each is right, and meets no fault with a pool of 16 words. `tools/c_build` makes the images.
+`tools/c_procedures.py` writes the texts: each is right, and meets no fault with a pool of 16 words. `tools/c_build` makes the images.
 They run with random arguments, pool words and words in the mailbox, and with as few pool words as their verdict asks for. None may
 meet a fault or exceed its bound, and as many as docs/AUTHOR.md states have to be accepted. That number is of clang 14, and is not
 compared with another clang's. What is not shown is listed by its reason if there are fewer: the last instruction before it in the
@@ -12,11 +12,12 @@ import re
 from collections import Counter
 from concurrent.futures import ThreadPoolExecutor
 
-from c_procedures import Writer
 from c_tools import TOOLS, build, needs_clang, newest
 from chance import SEED, RUNS, chance, scaled
 from support import ROOT, Case, ocp, run
 from verdicts import Flown, verdict_of
+
+from c_procedures import Writer
 
 PROCEDURES, CLANG, POOL_WORDS = 300, 14, 16
 STATED = r"Of 300 correct random procedures in C it accepts (\d+) for faults, (\d+) of them with a bound"

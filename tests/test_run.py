@@ -4,10 +4,9 @@ import shutil
 import signal
 import subprocess
 import time
-from pathlib import Path
 from unittest import mock
 
-from support import ROOT, Case, module_of, run
+from support import ROOT, Case, is_alive, module_of, run
 
 GROUPS = '''
 import os, pathlib, subprocess, unittest
@@ -58,9 +57,8 @@ class Runner(Case):
         (self.tests / "test_all.py").write_text(GROUPS.replace("SECONDS", str(seconds)))
 
     def sleeper_runs(self):
-        """Whether the process that a group started runs; one that ended and that nobody waited for does not."""
-        status = Path(f"/proc/{self.sleeper.read_text()}/stat")
-        return status.exists() and ") Z " not in status.read_text()
+        """Whether the process that a group started runs."""
+        return is_alive(self.sleeper.read_text())
 
     def test_counts(self):
         for words, status, last, lines in RUNS:

@@ -32,7 +32,8 @@ class Bodies(Case):
 
 @needs("rt")
 class Embed(Case):
-    """The library for C, over what was proved, for x86-64 and aarch64; the instructions and the stack that docs/EMBED.md states."""
+    """The library for C, over what was proved, for x86-64 and aarch64; the instructions and the stack that docs/EMBED.md states;
+    the package of ground over it."""
 
     seconds = 420
 
@@ -40,9 +41,10 @@ class Embed(Case):
         if not any((ROOT / name).exists() for name in MADE_BEFORE):
             self.skipTest("no library for C, and nothing to make it of soon: rt ci, or tools/static_library")
         also = ["--also", "aarch64-unknown-linux-gnu"] if all(map(shutil.which, CROSS)) else []
+        late = [] if (ROOT / MADE_BEFORE[0]).exists() else [["ocp", "test", "ground_package"]]  # which was skipped without it
         self.passes([ROOT / "tools/static_library", *also], 50 * MINUTE)
         with ThreadPoolExecutor() as pool:  # side by side
-            scenes = (["embed/run"], ["bench/worst", "--check"], ["embed/run", "--target", "aarch64"])
+            scenes = (["embed/run"], ["bench/worst", "--check"], ["embed/run", "--target", "aarch64"], *late)
             ends = [pool.submit(self.passes, [ROOT / words[0], *words[1:]], 20 * MINUTE) for words in scenes]
             for words, end in zip(scenes, ends):
                 with self.subTest(" ".join(words)):

@@ -3,8 +3,11 @@
 A piece is statements for the body of `entry`. Functions and enums that it needs come first, above a line of dashes. It may use
 `arguments`, `count`, `result`, and 192 octets of the work region at $work. `Writer` fills in the names with $: a name has one
 value within a piece. Each piece is right: with a pool of 16 words it meets no fault, for any arguments, pool words and mailbox.
+A checker or a compiler can be tried with it: `python3 tools/c_procedures.py SEED` prints a procedure.
 """
+import random
 import re
+import sys
 
 PIECES = """
 for ($counter i = 0; i < count; i++) result $joins arguments[i];
@@ -492,3 +495,7 @@ class Writer:
         text = re.sub(r"^( *)\$pieces?$", lambda found: indented(next(each), len(found[1])), shape, flags=re.M)
         functions = "".join(f"\n{function}\n" for function in self.functions)
         return f"{HEAD}{functions}\n{ENTRY}{indented(text, 4)}\n    return result;\n}}\n"
+
+
+if __name__ == "__main__":
+    print(Writer(random.Random(" ".join(sys.argv[1:]))).procedure(), end="")
