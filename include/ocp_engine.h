@@ -130,7 +130,8 @@ uint32_t ocp_open(struct ocp_engine *engine, uint32_t profile, uint32_t apid, ui
 
 /* How many octets ocp_open takes with these numbers of a block whose pieces begin at multiples of 16, as those of heap.c
  * do; 0 if ocp_open refuses one of them. Needs no handle. Octets:
- *   763,584 + 8 * pool_words + 4 * entries + octets, each of these three rounded up to a multiple of 16 */
+ *   714,432 + 8 * pool_words + 4 * entries + octets under profile 1, each of these three rounded up to a multiple of 16;
+ *   763,584 in place of 714,432 under profile 2 */
 size_t ocp_size(uint32_t profile, uint32_t pool_words, uint32_t entries, uint32_t octets);
 
 /* Gives back all memory of the engine and closes the handle.
