@@ -28,7 +28,7 @@ class Lane(NamedTuple):
 
 
 def ticks(low: int, high: int, most: int) -> range:
-    """Round numbers from at most `low` to at least `high`, at most about so many."""
+    """Round numbers from at most `low` to at least `high`. Their distance is 1, 2 or 5 times a power of ten."""
     step = 1
     while (high - low) / step > most:
         step = step * 5 // 2 if str(step).startswith("2") else step * 2

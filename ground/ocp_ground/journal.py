@@ -82,7 +82,7 @@ class Files:
         return max(0, bisect_right(self.begins, min(at, max(0, self.total - 1))) - 1)
 
     def take(self, at: int, count: int) -> Union[bytes, memoryview]:
-        """At most so many octets from a place on; they are copied only if a file ends between them."""
+        """The octets from a place on, up to a number of them. They are copied only if a file ends between them."""
         part = self.part_of(at)
         begin = at - self.begins[part] if self.parts else 0
         if not self.parts or begin + count <= len(self.views[part]) or part + 1 == len(self.parts):

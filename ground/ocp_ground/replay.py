@@ -1,6 +1,6 @@
 """A journal run again, to any event, forward and back.
 
-`now` is how many events were done: the state is that before event `now`. The first pass keeps a snapshot every so many events; a
+`now` is how many events were done: the state is that before event `now`. The first pass keeps a snapshot at equal distances; a
 step back restores the last one before, and runs on from there.
 """
 from __future__ import annotations
